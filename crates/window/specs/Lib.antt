@@ -1,0 +1,5 @@
+pub mod Stamps
+pub mod Below
+pub mod Meaning
+pub mod Causes
+pub mod Faults
