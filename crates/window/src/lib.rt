@@ -1,13 +1,10 @@
 // Window counters: one meaning, several ways to hold it.
 ghost use mathlib.Core.Path.{_≡_};
-ghost use mathlib.Core.List.{List};
-ghost use Prim.Native.Nat.{ℕ};
-ghost use lib.ListN.{length};
-ghost use Rattle.window.specs.Stamps.{newest-stamp};
-ghost use Rattle.window.specs.Meaning.{Model, Keeps, Stands, Fresh};
+ghost use Rattle.window.specs.Meaning.{Model, Keeps, Fresh};
 ghost use Rattle.window.specs.Faults.{Counted, Took, number};
 
 pub mod admission;
+pub mod settings;
 pub mod stamps;
 
 // Why a counter refuses.
@@ -58,13 +55,11 @@ pub trait Counter: Copy {
 
     // The newest stamp of each list that it stands for.
     fn last(&self) -> u32
-        ensures told { λ r. ⌜ r ≡ model .last (now (self .entry)) ⌝ }
-        ensures newest { λ r. ⌜ ((xs : List ℕ) → Stands model (now (self .entry)) xs → newest-stamp xs ≡ r) ⌝ };
+        ensures told { λ r. ⌜ r ≡ model .last (now (self .entry)) ⌝ };
 
     // How many stamps each list has that it stands for.
     fn taken(&self) -> u32
-        ensures told { λ r. ⌜ r ≡ model .taken (now (self .entry)) ⌝ }
-        ensures many { λ r. ⌜ ((xs : List ℕ) → Stands model (now (self .entry)) xs → length xs ≡ r) ⌝ };
+        ensures told { λ r. ⌜ r ≡ model .taken (now (self .entry)) ⌝ };
 
     // Low and high of how many stamps are live at t over v.
     fn count(&self, t: u32, v: u32) -> Result<(u32, u32), CounterFault>
