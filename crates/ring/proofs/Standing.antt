@@ -9,18 +9,16 @@ use native.Mathlib.Nat.{mul-zero}
 use lib.Dec.{leb, ltb, eqb}
 use lib.ListN.{length, take, drop, getD, set}
 use Rattle.std.specs.Orderings.{Decides}
-use Rattle.std.specs.declared.option.Option.the-variants.{Some, None}
-use Rattle.std.proofs.shelf.Tests.{and-parts, and-from, eqb-true, eq-eqb, leb-false, cond-false, cases-lt, cases-eq}
+use Rattle.std.proofs.shelf.Tests.{and-parts, and-from, eqb-true, eq-eqb, cases-lt, cases-eq}
 use Rattle.std.proofs.shelf.Ways.{decides-or, decides-eqb, decides-ltb}
 use Rattle.std.proofs.shelf.Lists.{length-take, length-drop, length-push, length-set, getD-append-left, getD-set-same, getD-set-other, getD-push}
 use Rattle.window.specs.Stamps.{live-count, ascending, newest-stamp}
 use Rattle.window.specs.Meaning.{Keeps, Fresh}
 use Rattle.window.specs.Causes.{Admitted}
-use Rattle.window.specs.Faults.{Arrived, turn-causes, room-causes, take-causes}
+use Rattle.window.specs.Faults.{Arrived, take-causes}
 use Rattle.window.proofs.Arrivals.{live-split, live-le, live-append, old-dead, live-later, ascends-push, last-push}
 use Rattle.window.proofs.Bounded.{all-decides}
-use Rattle.window.proofs.Estimates.{in-turn}
-use Rattle.window.proofs.Refusals.{admitted-then}
+use Rattle.window.proofs.Estimates.{admitted-stamp}
 use Rattle.window.proofs.Rotation.{Size, Placed, newest-live}
 use Rattle.ring.specs.Kept.{empty-ring, live-kept, placed, stands-for, with-newest, ring-model}
 use Rattle.ring.specs.declared.Ring.{Ring}
@@ -122,17 +120,14 @@ grown c xs t in-time free st =
       few = omega (arith, live-append t (c .window) xs (t ∷ []), live-le t (c .window) (t ∷ []));
     })
 
--- a stamp that is in turn, where there is room, arrives
-pub taken-in : (c d : Ring) (t : ℕ) → Admitted (turn-causes (c .last) (c .taken) t) → leb 256 (live-kept c t (c .window)) ≡ false → d ≡ with-newest c t → Admitted (take-causes ring-model c t) × Arrived ring-model c d t
-taken-in c d t turn free e =
-    let high = live-kept c t (c .window) in
-    let in-time = in-turn (c .last) (c .taken) t turn .0 in
-    let room = leb-false 256 high free in
-    (admitted-then (turn-causes (c .last) (c .taken) t) (room-causes high 256) turn ∙ cond-false (leb 256 high) (Some 14) None free,
+-- a stamp that is admitted arrives
+pub arrived : (c d : Ring) (t : ℕ) → Admitted (take-causes ring-model c t) → d ≡ with-newest c t → Arrived ring-model c d t
+arrived c d t admitted e =
+    let facts = admitted-stamp (c .last) (c .taken) (live-kept c t (c .window)) 256 t admitted in
     record {
-      grown = λ xs st. ap (λ z. stands-for z (xs ++ (t ∷ []))) e ∙ grown c xs t in-time room st;
+      grown = λ xs st. ap (λ z. stands-for z (xs ++ (t ∷ []))) e ∙ grown c xs t (facts .0) (facts .2) st;
       settings = record { window = ap (λ z. z .window) e; fineness = ap (λ z. z .fineness) e; limit = refl };
-    })
+    }
 
 -- a new ring tells what it was made with, and stands for the empty list
 pub fresh : (w f : ℕ) (c : Ring) → c ≡ empty-ring w f → Fresh ring-model w f c

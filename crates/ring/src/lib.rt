@@ -4,7 +4,7 @@ ghost use mathlib.Core.Path.{_≡_};
 ghost use Prim.Native.Nat.{_<_, _%_};
 ghost use lib.Dec.{leb};
 ghost use Rattle.std.specs.Results.{isOk};
-ghost use Rattle.window.specs.Faults.{Took};
+ghost use Rattle.window.specs.Faults.{Tested, Took, count-causes, take-causes};
 ghost use Rattle.ring.specs.Kept.{empty-ring, kept, live-kept, with-newest, ring-model};
 use window::Counter;
 use window::CounterFault;
@@ -85,6 +85,24 @@ impl Ring {
         fills(self.live(t, self.window))
     }
 
+    // Whether it may be asked at t over v.
+    fn permits(&self, t: u32, v: u32) -> Result<(), CounterFault>
+        ensures tested { λ r. ⌜ Tested (count-causes ring-model (now (self .entry)) t v) r ⌝ }
+    {
+        permit(self.last, self.window, t, v)
+    }
+
+    // Whether it takes t.
+    fn admits(&self, t: u32) -> Result<(), CounterFault>
+        ensures tested { λ r. ⌜ Tested (take-causes ring-model (now (self .entry)) t) r ⌝ }
+    {
+        in_turn(self.last, self.taken, t)?;
+        if self.is_full(t) {
+            return Err(CounterFault::Full);
+        }
+        Ok(())
+    }
+
     // Stores t as the newest stamp.
     fn arrive(&mut self, t: u32)
         requires room { ⌜ now self .taken < 16777215 ⌝ }
@@ -124,7 +142,7 @@ pub impl Counter for Ring as RingCounter {
     }
 
     fn count(&self, t: u32, v: u32) -> Result<(u32, u32), CounterFault> {
-        permit(self.last, self.window, t, v)?;
+        self.permits(t, v)?;
         let live = self.live(t, v);
         Ok((live, live))
     }
@@ -133,10 +151,7 @@ pub impl Counter for Ring as RingCounter {
         ensures took { λ r. ⌜ Took ring-model (now (self .entry)) (now (self .exit)) t r ⌝ }
         ensures stored { λ r. ⌜ (isOk r ≡ true → now (self .exit) ≡ with-newest (now (self .entry)) t) ⌝ }
     {
-        in_turn(self.last, self.taken, t)?;
-        if self.is_full(t) {
-            return Err(CounterFault::Full);
-        }
+        self.admits(t)?;
         self.arrive(t);
         Ok(())
     }

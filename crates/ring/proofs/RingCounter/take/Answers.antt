@@ -1,10 +1,8 @@
-use mathlib.Core.Path.{sym}
-use Rattle.ring.proofs.Standing.{taken-in}
+use Rattle.ring.proofs.Standing.{arrived}
 use Rattle.ring.proofs.RingCounter.take.Needs as need
 
 pub returns : need.returns
 returns c =
-    record {
-      took = taken-in (c .args .self .now) (c .arrive .last .self) (c .args .t) (c .in-Continue-in-turn .ensures tt .tested) (sym (c .if-is-full .ensures tt .full)) (c .arrive .ensures .stored);
-      stored = λ _. c .arrive .ensures .stored;
-    }
+    let admitted = c .in-Continue-admits .ensures tt .tested in
+    let stored = c .arrive .ensures .stored in
+    record { took = (admitted, arrived (c .args .self .now) (c .arrive .last .self) (c .args .t) admitted stored); stored = λ _. stored }
