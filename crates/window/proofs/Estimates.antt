@@ -14,6 +14,14 @@ use Rattle.window.specs.Faults.{question-causes, turn-causes, room-causes, cou
 pub permitted : (last window t v : ℕ) → Admitted (question-causes last window t v) → Permitted last window t v
 permitted last window t v a = record { in-time = grind (arith, tells); some = grind (arith, tells); within = grind (arith, tells) }
 
+-- and no cause turns a permitted question away
+pub admitted-question : (last window t v : ℕ) → Permitted last window t v → Admitted (question-causes last window t v)
+admitted-question last window t v p =
+    let a : last ≤ t = p .in-time in
+    let b : 0 < v = p .some in
+    let c : v ≤ window = p .within in
+    grind (arith, tells)
+
 -- a stamp that is in turn is not before the last one, and may be counted
 pub in-turn : (last taken t : ℕ) → Admitted (turn-causes last taken t) → (last ≤ t) × (taken < most-taken)
 in-turn last taken t a = (grind (arith, tells), grind (arith, tells))

@@ -1,0 +1,11 @@
+pub mod Sums
+pub mod Weaker
+pub mod Partition
+pub mod Words
+pub mod Walk
+pub mod NodeLaws
+pub mod Cells
+pub mod RowSteps
+pub mod Lawfulness
+pub mod RangeLaws
+pub mod RangeSteps

@@ -1,0 +1,8 @@
+pub mod Extremes
+pub mod Layout
+pub mod Pieces
+pub mod Plays
+pub mod Nodes
+pub mod Answers
+pub mod Telling
+pub mod Laws
