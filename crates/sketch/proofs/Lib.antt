@@ -9,3 +9,5 @@ pub mod RowSteps
 pub mod Lawfulness
 pub mod RangeLaws
 pub mod RangeSteps
+pub mod TellSteps
+pub mod TellLaws

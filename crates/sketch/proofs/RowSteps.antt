@@ -102,8 +102,8 @@ module _ {C : Type 0} (m : Model C) (s : Shape) (cells : List C) (enrolled t v k
   rows-none = record { low-is = λ d. refl; high-is = λ d. refl; willing = λ d. refl }
 
   module _ (r low high high′ least most : ℕ) (rows : Rows m s cells enrolled t v k i r low high)
-    (counted : (d : C) → (refuses-count m (cell-of s cells d k i r) t v ≡ false) × (least ≡ m .low (cell-of s cells d k i r) t v) × (most ≡ m .high (cell-of s cells d k i r) t v))
-    (first : r ≡ 0 → high′ ≡ most) (later : 0 < r → high′ ≡ min high most) where
+      (counted : (d : C) → (refuses-count m (cell-of s cells d k i r) t v ≡ false) × (least ≡ m .low (cell-of s cells d k i r) t v) × (most ≡ m .high (cell-of s cells d k i r) t v))
+      (first : r ≡ 0 → high′ ≡ most) (later : 0 < r → high′ ≡ min high most) where
     high-more : (d : C) → high′ ≡ least-below (λ r. m .high (cell-of s cells d k i r) t v) (r + 1)
     high-more d = go r refl
       where

@@ -4,5 +4,5 @@ pub mod Pieces
 pub mod Plays
 pub mod Nodes
 pub mod Answers
-pub mod Telling
 pub mod Laws
+pub mod Telling

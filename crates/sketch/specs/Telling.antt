@@ -1,7 +1,7 @@
 -- Telling a stamp to the cells of a key, all or none.
 use Prim.Native.Nat.{ℕ, _+_, _*_, _≤_, _<_}
 use mathlib.Core.Path.{_≡_}
-use mathlib.Core.List.{List}
+use mathlib.Core.List.{List, [], _∷_, _++_}
 use lib.ListN.{length, getD}
 use Rattle.std.specs.declared.result.Result.{Result}
 use Rattle.std.specs.declared.result.Result.the-variants.{Ok, Err}
@@ -10,7 +10,9 @@ use Rattle.window.specs.Meaning.{Model}
 use Rattle.window.specs.Faults.{number, take-causes, Arrived}
 use Rattle.sketch.specs.declared.faults.CellFault.{CellFault}
 use Rattle.sketch.specs.Layout.{Shape, node-of, column, place}
+use Rattle.sketch.specs.Plays.{KeyedPlay}
 use Rattle.sketch.specs.Nodes.{cell-at, cell-of}
+use Rattle.sketch.specs.Laws.{Faithful}
 
 -- the rows of all levels in order: by level, then by row
 abbrev pub order : Shape → ℕ → ℕ → ℕ
@@ -40,3 +42,8 @@ pub record NamesFirst {C : Type 0} (m : Model C) (s : Shape) (x t n : ℕ) (cell
 abbrev pub TellsFrom : {C : Type 0} → Model C → Shape → ℕ → ℕ → ℕ → List C → List C → Result (Unit {0}) CellFault → Type 0
 TellsFrom m s x t n before after (Ok u) = ToldFrom m s x t n before after
 TellsFrom m s x t n before after (Err f) = (after ≡ before) × NamesFirst m s x t n before f
+
+-- a told stamp keeps the cells faithful: to the plays with this one at their end
+abbrev pub TellsFaithfully : {C : Type 0} → Model C → Shape → ℕ → ℕ → List C → List C → Result (Unit {0}) CellFault → Type 0
+TellsFaithfully m s x t before after (Ok u) = (plays : List KeyedPlay) → Faithful m s before plays → Faithful m s after (plays ++ (record { key = x; stamp = t }) ∷ [])
+TellsFaithfully m s x t before after (Err f) = after ≡ before

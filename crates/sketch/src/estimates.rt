@@ -28,7 +28,13 @@ impl<C: Counter> Question<'_, C> {
         ensures counted { λ r. ⌜ CellCounted (C·Counter .model) (shape-of (now (now (self .entry) .sketch))) (now (now (self .entry) .cells)) level row column (now (self .entry) .t) (now (self .entry) .v) r ⌝ }
     {
         let place = self.sketch.place(level, row, column);
-        at_cell(self.cells[place].count(self.t, self.v), level, row, column, self.t)
+        at_cell(
+            self.cells[place].count(self.t, self.v),
+            level,
+            row,
+            column,
+            self.t,
+        )
     }
 
     // How many nodes of a level cover an enrolled key: the first ones do.
@@ -79,7 +85,11 @@ impl<C: Counter> Question<'_, C> {
         requires level { ⌜ level ≤ now (now self .sketch) .bits ⌝ }
         ensures answered { λ r. ⌜ PieceAnswer (C·Counter .model) (shape-of (now (now (self .entry) .sketch))) (now (now (self .entry) .cells)) (now (self .entry) .enrolled) (now (self .entry) .t) (now (self .entry) .v) level node piece r ⌝ }
     {
-        if piece { self.node(level, node) } else { Ok((0, 0)) }
+        if piece {
+            self.node(level, node)
+        } else {
+            Ok((0, 0))
+        }
     }
 
     // The low and high of the keys from first to last: a walk over the levels with both ends,

@@ -13,11 +13,23 @@ pub struct CellFault {
 }
 
 // A counter's answer; a refusal is told with the cell's level, row and column and the stamp.
-pub fn at_cell<T>(answer: Result<T, CounterFault>, level: u32, row: u32, column: u32, stamp: u32) -> Result<T, CellFault>
+pub fn at_cell<T>(
+    answer: Result<T, CounterFault>,
+    level: u32,
+    row: u32,
+    column: u32,
+    stamp: u32,
+) -> Result<T, CellFault>
     ensures passed { λ r. ⌜ PassedOn answer level row column stamp r ⌝ }
 {
     match answer {
         Ok(x) => Ok(x),
-        Err(fault) => Err(CellFault { level, row, column, stamp, fault }),
+        Err(fault) => Err(CellFault {
+            level,
+            row,
+            column,
+            stamp,
+            fault,
+        }),
     }
 }

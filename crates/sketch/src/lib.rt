@@ -4,3 +4,4 @@ pub mod faults;
 pub mod places;
 pub mod question;
 pub mod shape;
+pub mod telling;
