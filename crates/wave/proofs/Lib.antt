@@ -1,0 +1,4 @@
+pub mod Searching
+pub mod Levels
+pub mod Places
+pub mod Bounds
