@@ -83,7 +83,7 @@ pub record LevelKeeps (n m j r : ℕ) : Type 0 where
   pub taken : r ≤ n
   pub near : n < r + reach m j
 
-near-to : (n m j r : ℕ) → j ≤ top r → n / 2 ^ j ≤ r / 2 ^ j + 2 * m → n < r + reach m j
+pub near-to : (n m j r : ℕ) → j ≤ top r → n / 2 ^ j ≤ r / 2 ^ j + 2 * m → n < r + reach m j
 near-to n m j r b h =
     let e = whole r j b in
     let s = shr-split n j in
@@ -93,7 +93,7 @@ near-to n m j r b h =
     let x = add-mul (2 * m) 1 (2 ^ j) in
     omega arith
 
-near-from : (n m j r : ℕ) → j ≤ top r → n < r + reach m j → n / 2 ^ j ≤ r / 2 ^ j + 2 * m
+pub near-from : (n m j r : ℕ) → j ≤ top r → n < r + reach m j → n / 2 ^ j ≤ r / 2 ^ j + 2 * m
 near-from n m j r b h =
     let e = whole r j b in
     let w = add-mul (r / 2 ^ j) (2 * m + 1) (2 ^ j) in

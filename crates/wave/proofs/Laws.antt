@@ -1,0 +1,78 @@
+-- The rules of a taking and of a new wave.
+use mathlib.Core.Path.{_≡_, refl, sym, ap, _∙_}
+use mathlib.Core.Bool.{true, false, cond}
+use mathlib.Core.List.{List, [], _∷_, _++_}
+use mathlib.Core.Logic.{⊎-elim}
+use Prim.Native.Nat.{ℕ, _+_, _≤_, _<_}
+use native.Mathlib.Omega.{arith}
+use lib.ListN.{length}
+use Rattle.std.proofs.shelf.Tests.{cases-bool, cond-true, cond-false}
+use Rattle.window.specs.Faults.{Arrived}
+use Rattle.wave.specs.Ranks.{top}
+use Rattle.wave.specs.Waves.{place, stamp-of, high-of, sound, wave-stands, wave-high, fresh, arrived, wave-model}
+use Rattle.wave.specs.Soundness.{Sound}
+use Rattle.wave.specs.Takings.{LevelsKeep, Grown}
+use Rattle.wave.specs.declared.Wave.{Wave}
+use Rattle.wave.proofs.Levels.{LevelKeeps, keeps-kept, keeps-decides, newest-decides, reach-pos, reach-mono}
+use Rattle.wave.proofs.Parts.{held, sound-decides, stands-decides}
+use Rattle.wave.proofs.Growing.{grown-by, new-stamp, old-stamp, sound-grown, stands-grown, arrived-sound}
+use Rattle.std.proofs.shelf.Bits.{pow-pos}
+
+high-sound : (c : Wave) (t v : ℕ) → sound c ≡ true → wave-high c t v ≡ high-of c t v
+high-sound c t v y = cond-true (sound c) (high-of c t v) 0 y
+
+-- each list that the wave stood for has t at its end now
+pub arrives : (c : Wave) (t : ℕ) → c .last ≤ t → wave-high c t (c .window) < 4095 → Arrived wave-model c (arrived c t) t
+arrives c t after free = record {
+  grown = λ xs st.
+      let s = stands-decides c xs .0 st in
+      let y = sound-decides c .1 (s .sound) in
+      let h = high-sound c t (c .window) y in
+      ap (λ z. wave-stands z (xs ++ (t ∷ []))) (arrived-sound c t y) ∙ stands-decides (grown-by c t) (xs ++ (t ∷ [])) .1 (stands-grown c xs t s after (omega (arith, h)));
+  settings = record { window = refl; fineness = refl; limit = refl };
+}
+
+pub stays-sound : (c : Wave) (t : ℕ) → c .last ≤ t → wave-high c t (c .window) < 4095 → sound c ≡ true → sound (arrived c t) ≡ true
+stays-sound c t after free y =
+    let h = high-sound c t (c .window) y in
+    ap sound (arrived-sound c t y) ∙ sound-decides (grown-by c t) .1 (sound-grown c t (sound-decides c .0 y) after (omega (arith, h)))
+
+levels-keep : (c : Wave) (t : ℕ) → Sound c → LevelsKeep c (grown-by c t) t
+levels-keep c t s =
+    let n = c .taken in
+    let m = c .fineness in
+    record {
+      newest = λ j r h. newest-decides (n + 1) m j r h;
+      new-rank = λ j h. keeps-decides (n + 1) m j (n + 1) .1 (record { belongs = h; taken = omega arith; near = omega (arith, reach-pos m j, pow-pos j) });
+      new-stamp = new-stamp c t s;
+      old-ranks = λ j r le k.
+          let b = keeps-decides (n + 1) m j r .0 k in
+          keeps-decides n m j r .1 (record { belongs = b .belongs; taken = le; near = omega (arith, b .near) });
+      old-stamps = λ j r le k. old-stamp c t r s le (keeps-kept (n + 1) m j r (keeps-decides (n + 1) m j r .0 k));
+    }
+
+pub grows : (c : Wave) (t : ℕ) → Grown c (arrived c t) t
+grows c t = record {
+  arrives = refl;
+  levels-keep = λ y. rw (arrived-sound c t y) (levels-keep c t (sound-decides c .0 y));
+  stamps-stay = λ d. cond-false (sound c) _ (c .stamps) d;
+}
+
+-- a new wave
+pub fresh-sound : (w m : ℕ) → 1 ≤ w → w ≤ 4294967295 → 1 ≤ m → m ≤ 6 → Sound (fresh w m)
+fresh-sound w m some wide least most =
+    let c = fresh w m in
+    record {
+      window-some = some;
+      window-fits = wide;
+      fineness-least = least;
+      fineness-most = most;
+      has-places = refl;
+      stamps-rise = λ a b pos less ka kb. absurd (omega (arith, held c a ka .taken));
+      stamps-not-late = λ r pos k. absurd (omega (arith, held c r k .taken));
+      low-within-limit = omega arith;
+    }
+
+pub fresh-stands : (w m : ℕ) → 1 ≤ w → w ≤ 4294967295 → 1 ≤ m → m ≤ 6 → wave-stands (fresh w m) [] ≡ true
+fresh-stands w m some wide least most =
+    stands-decides (fresh w m) [] .1 (record { sound = fresh-sound w m some wide least most; has-taken = refl; ascends = refl; ends-with-last = refl; holds-stamps = λ i k. absurd (omega (arith, held (fresh w m) _ k .taken)) })
