@@ -8,3 +8,4 @@ pub mod Standing
 pub mod Growing
 pub mod Laws
 pub mod Walking
+pub mod Seeing

@@ -36,6 +36,9 @@ gap-apart x r j bx br less =
 pub stand-keeps : (n m j r : ℕ) → StandsAt n m j r → LevelKeeps n m j r
 stand-keeps n m j r s = keeps-decides n m j r .0 (s .keeps)
 
+pub stand-low : (n m j r : ℕ) → StandsAt n m j r → j < 12
+stand-low n m j r s = omega (arith, stand-keeps n m j r s .belongs, top-le r)
+
 -- no rank is below the gap of its level, but for the mark
 pub none-below : (n m j r : ℕ) → StandsAt n m j r → r < 2 ^ j → (x : ℕ) → r ≤ x
 none-below n m j r s h x =
@@ -45,6 +48,9 @@ none-below n m j r s h x =
     (λ (l : d .0 ≤ 0). let u = mul-le-mul-right (2 ^ j) l in omega (arith, d .1, u))
     (cases-lt 0 (d .0))
 
+pub coming-taken : (n m j r next i : ℕ) → StandsAt n m j r → Coming n m r next i → next ≤ n
+coming-taken n m j r next i s c = omega (arith, c .below, stand-keeps n m j r s .taken)
+
 pub coming-first : (n m j r : ℕ) → StandsAt n m j r → 2 ^ j ≤ r → Coming n m r (r - 2 ^ j) j
 coming-first n m j r s h = record {
   below = omega (arith, pow-pos j);
@@ -52,8 +58,8 @@ coming-first n m j r s h = record {
   level = λ x k less. s .lowest x k (omega arith);
 }
 
-pub coming-rounded : (n m r next j : ℕ) → Coming n m r next j → Coming n m r (next / 2 ^ j * 2 ^ j) j
-coming-rounded n m r next j c = record {
+pub coming-rounded : (n m r next j y : ℕ) → y ≡ next / 2 ^ j * 2 ^ j → Coming n m r next j → Coming n m r y j
+coming-rounded n m r next j y e c = record {
   below = omega (arith, c .below, shr-split next j);
   bound = λ x k less.
       let u = mul-le-mul-right (2 ^ j) (shr-mono j (c .bound x k less)) in
@@ -74,11 +80,11 @@ coming-higher n m r next j c far le = record {
       (cases-lt j (top x));
 }
 
-pub coming-found : (n m r next j : ℕ) → j ≤ 11 → Coming n m r (next / 2 ^ j * 2 ^ j) j → n - next / 2 ^ j * 2 ^ j < reach m j → next / 2 ^ j * 2 ^ j ≤ n → Older n m r (Some (next / 2 ^ j * 2 ^ j, j))
-coming-found n m r next j h c near le = (
+pub coming-found : (n m r next j y : ℕ) → y ≡ next / 2 ^ j * 2 ^ j → j ≤ 11 → Coming n m r y j → n - y < reach m j → y ≤ n → Older n m r (Some (y, j))
+coming-found n m r next j y e h c near le = (
   c .below,
   record {
-    keeps = keeps-decides n m j (next / 2 ^ j * 2 ^ j) .1 (record { belongs = divides-top (next / 2 ^ j) j h; taken = le; near = omega arith });
+    keeps = keeps-decides n m j y .1 (record { belongs = rw e (divides-top (next / 2 ^ j) j h); taken = le; near = omega arith });
     lowest = λ x k l. c .level x k (omega (arith, c .below));
   },
   c .bound,
