@@ -9,3 +9,4 @@ pub mod Growing
 pub mod Laws
 pub mod Walking
 pub mod Seeing
+pub mod Looking

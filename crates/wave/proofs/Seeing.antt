@@ -97,7 +97,7 @@ fits-stamp c r newer pos e =
     (λ z. leb-true _ _ (and-parts (leb (stamp-of c r) newer) (ltb (c .taken - r) 4095 || not (is-live (c .last) (c .window) (stamp-of c r))) z .0))
     (or-cases (eqb r 0) (leb (stamp-of c r) newer && (ltb (c .taken - r) 4095 || not (is-live (c .last) (c .window) (stamp-of c r)))) e)
 
-fits-few : (c : Wave) (r newer : ℕ) → fits c r newer ≡ true → rank-live c (c .last) (c .window) r ≡ true → c .taken - r < 4095
+pub fits-few : (c : Wave) (r newer : ℕ) → fits c r newer ≡ true → rank-live c (c .last) (c .window) r ≡ true → c .taken - r < 4095
 fits-few c r newer e y =
     let live = and-parts (ltb 0 r) (is-live (c .last) (c .window) (stamp-of c r)) y in
     ⊎-elim
