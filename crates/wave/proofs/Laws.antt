@@ -1,13 +1,16 @@
 -- The rules of a taking and of a new wave.
-use mathlib.Core.Path.{_≡_, refl, sym, ap, _∙_}
-use mathlib.Core.Bool.{true, false, cond}
+use mathlib.Core.Path.{_≡_, refl, sym, ap, subst, _∙_}
+use mathlib.Core.Bool.{true, false}
 use mathlib.Core.List.{List, [], _∷_, _++_}
 use mathlib.Core.Logic.{⊎-elim}
 use Prim.Native.Nat.{ℕ, _+_, _≤_, _<_}
 use native.Mathlib.Omega.{arith}
 use lib.ListN.{length}
-use Rattle.std.proofs.shelf.Tests.{cases-bool, cond-true, cond-false}
-use Rattle.window.specs.Faults.{Arrived}
+use Rattle.std.proofs.shelf.Tests.{lt-leb, cases-bool, cond-true, cond-false}
+use Rattle.window.specs.Causes.{Admitted}
+use Rattle.window.specs.Faults.{Arrived, turn-causes, room-causes, take-causes}
+use Rattle.window.proofs.Refusals.{admitted-then}
+use Rattle.window.proofs.Estimates.{in-turn}
 use Rattle.wave.specs.Ranks.{top}
 use Rattle.wave.specs.Waves.{place, stamp-of, high-of, sound, wave-stands, wave-high, fresh, arrived, wave-model}
 use Rattle.wave.specs.Soundness.{Sound}
@@ -57,6 +60,22 @@ grows c t = record {
   levels-keep = λ y. rw (arrived-sound c t y) (levels-keep c t (sound-decides c .0 y));
   stamps-stay = λ d. cond-false (sound c) _ (c .stamps) d;
 }
+
+-- what a taking owes that no cause refuses
+pub record Taken (before after : Wave) (t : ℕ) : Type 0 where
+  pub took : Admitted (take-causes wave-model before t) × Arrived wave-model before after t
+  pub recorded : Grown before after t
+  pub stays-sound : sound before ≡ true → sound after ≡ true
+
+pub takes : (c after : Wave) (t : ℕ) → Admitted (turn-causes (c .last) (c .taken) t) → wave-high c t (c .window) < 4095 → after ≡ arrived c t → Taken c after t
+takes c after t admitted free e =
+    let turn = in-turn (c .last) (c .taken) t admitted in
+    let P : Wave → Type 0 = λ z. Taken c z t in
+    subst P (sym e) (record {
+      took = (admitted-then (turn-causes (c .last) (c .taken) t) (room-causes (wave-high c t (c .window)) 4095) admitted ∙ cond-false _ _ _ (lt-leb _ _ free), arrives c t (turn .0) free);
+      recorded = grows c t;
+      stays-sound = stays-sound c t (turn .0) free;
+    })
 
 -- a new wave
 pub fresh-sound : (w m : ℕ) → 1 ≤ w → w ≤ 4294967295 → 1 ≤ m → m ≤ 6 → Sound (fresh w m)

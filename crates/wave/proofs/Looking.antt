@@ -6,16 +6,17 @@ use Prim.Native.Nat.{ℕ, _+_, _-_, _≤_, _<_, min}
 use native.Mathlib.Omega.{arith}
 use lib.Dec.{leb, eqb}
 use lib.ListN.{length}
-use Rattle.std.specs.Options.{valueOr}
+use Rattle.std.specs.Options.{isSome, valueOr}
 use Rattle.std.specs.declared.option.Option.{Option}
 use Rattle.std.specs.declared.option.Option.the-variants.{Some, None}
-use Rattle.std.proofs.shelf.Tests.{le-leb, eq-eqb, ne-eqb, cases-lt, cases-eq, cases-bool, cond-true, cond-false, both-ways}
-use Rattle.wave.specs.Waves.{stamp-of, rank-live, oldest-live, newest-dead, low-of, high-of, sound}
+use Rattle.std.proofs.shelf.Tests.{and-from, le-leb, eq-eqb, ne-eqb, cases-lt, cases-eq, cases-bool, cond-true, cond-false, both-ways}
+use Rattle.std.proofs.shelf.Ways.{tells}
+use Rattle.wave.specs.Waves.{stamp-of, rank-live, oldest-live, newest-dead, low-of, high-of, in-range, sound, wave-low, wave-high}
 use Rattle.wave.specs.Soundness.{Sound}
 use Rattle.wave.specs.Walks.{StandsAt, Older, fits, looked, estimated}
 use Rattle.wave.specs.declared.Wave.{Wave}
 use Rattle.wave.specs.declared.survey.Seen.{Seen}
-use Rattle.wave.proofs.Levels.{keeps-decides, reach-pos}
+use Rattle.wave.proofs.Levels.{keeps-kept, keeps-decides, reach-pos}
 use Rattle.wave.proofs.Bounds.{Held, rank-pos, oldest-bound, oldest-least, oldest-is, newest-is, newest-none}
 use Rattle.wave.proofs.Parts.{held, held-kept, sound-decides}
 use Rattle.wave.proofs.Sounds.{high-none}
@@ -101,6 +102,12 @@ abbrev pub Walked : Wave → ℕ → ℕ → Option (ℕ × ℕ) → Seen → Ty
 Walked c t v None s = Sees c t v 0 s
 Walked c t v (Some stand) s = StandsAt (c .taken) (c .fineness) (stand .1) (stand .0) × Sees c t v (stand .0 + 1) s
 
+standing : (c : Wave) (j r : ℕ) → StandsAt (c .taken) (c .fineness) j r → Held c r
+standing c j r s = keeps-kept (c .taken) (c .fineness) j r (keeps-decides (c .taken) (c .fineness) j r .0 (s .keeps))
+
+pub walk-reached : (c : Wave) (t v r j : ℕ) (s : Seen) → Walked c t v (Some (r, j)) s → r ≤ c .taken
+walk-reached c t v r j s w = standing c j r (w .0) .taken
+
 pub walk-first : (c : Wave) (t v : ℕ) → Walked c t v (Some (c .taken, 0)) (record { oldest = c .last; low = 0; high = None })
 walk-first c t v = (
   record {
@@ -173,7 +180,7 @@ all-estimated c t v s f =
     (cases-eq (s .low) 0)
 
 -- what a survey gives: low and high where the wave is sound, else nothing
-abbrev Surveyed : Wave → ℕ → ℕ → Option (ℕ × ℕ) → Type 0
+abbrev pub Surveyed : Wave → ℕ → ℕ → Option (ℕ × ℕ) → Type 0
 Surveyed c t v r = r ≡ cond (sound c) (Some (low-of c t v, high-of c t v)) None
 
 pub surveyed-all : (c : Wave) (t v : ℕ) (s : Seen) → Sound c → Sees c t v 0 s → Surveyed c t v (Some (estimated s))
@@ -185,3 +192,52 @@ surveyed-none c t v bad =
     (λ y. absurd (bad (sound-decides c .0 y)))
     (λ d. sym (cond-false (sound c) (Some (low-of c t v, high-of c t v)) None d))
     (cases-bool (sound c))
+
+-- a walk over a sound wave is not broken off
+pub broken-off : (c : Wave) (t v r j : ℕ) (s : Seen) → Walked c t v (Some (r, j)) s → None ≡ cond (fits c r (s .oldest)) (Some (looked c t v r s)) None → Sound c → ⊥
+broken-off c t v r j s w e good =
+    let fit = sound-fits c t v r s good (w .1) (standing c j r (w .0)) in
+    let some = cond-true (fits c r (s .oldest)) (Some (looked c t v r s)) None fit in
+    let z : _≡_ {A = ℕ} 0 1 = cc in
+    omega arith
+
+-- where it goes on, one rank more is seen
+pub goes-on : (c : Wave) (t v r j : ℕ) (s more : Seen) → Walked c t v (Some (r, j)) s → Some more ≡ cond (fits c r (s .oldest)) (Some (looked c t v r s)) None → Sees c t v r more
+goes-on c t v r j s more w e =
+    ⊎-elim
+    (λ (fit : fits c r (s .oldest) ≡ true).
+    let some = cond-true (fits c r (s .oldest)) (Some (looked c t v r s)) None fit in
+    let same : looked c t v r s ≡ more = cc in
+    let P : Seen → Type 0 = λ z. Sees c t v r z in
+    subst P same (sees-more c t v r s (standing c j r (w .0)) fit (w .1)))
+    (λ (un : fits c r (s .oldest) ≡ false).
+    let none = cond-false (fits c r (s .oldest)) (Some (looked c t v r s)) None un in
+    let z : _≡_ {A = ℕ} 0 1 = cc in
+    absurd (omega arith))
+    (cases-bool (fits c r (s .oldest)))
+
+-- the settings of a sound wave
+pub ranges : (w m : ℕ) → in-range w m ≡ true → (1 ≤ w) × (w ≤ 4294967295) × (1 ≤ m) × (m ≤ 6)
+ranges w m e = (grind (arith, tells), grind (arith, tells), grind (arith, tells), grind (arith, tells))
+
+pub sound-ranges : (c : Wave) → Sound c → in-range (c .window) (c .fineness) ≡ true
+sound-ranges c s = and-from _ _ (and-from _ _ (le-leb _ _ (s .window-some)) (le-leb _ _ (s .window-fits))) (and-from _ _ (le-leb _ _ (s .fineness-least)) (le-leb _ _ (s .fineness-most)))
+
+-- what a survey tells of soundness, low and high
+pub some-sound : (b : Bool) (x : ℕ × ℕ) → isSome (cond b (Some x) None) ≡ b
+some-sound true x = refl
+some-sound false x = refl
+
+low-or-none : (b : Bool) (low high : ℕ) → valueOr {T = ℕ × ℕ} (cond b (Some (low, high)) None) (0, 0) .0 ≡ cond b low 0
+low-or-none true low high = refl
+low-or-none false low high = refl
+
+high-or-none : (b : Bool) (low high : ℕ) → valueOr {T = ℕ × ℕ} (cond b (Some (low, high)) None) (0, 0) .1 ≡ cond b high 0
+high-or-none true low high = refl
+high-or-none false low high = refl
+
+pub survey-low : (c : Wave) (t v : ℕ) (r : Option (ℕ × ℕ)) → Surveyed c t v r → valueOr {T = ℕ × ℕ} r (0, 0) .0 ≡ wave-low c t v
+survey-low c t v r e = ap (λ (o : Option (ℕ × ℕ)). valueOr {T = ℕ × ℕ} o (0, 0) .0) e ∙ low-or-none (sound c) (low-of c t v) (high-of c t v)
+
+pub survey-high : (c : Wave) (t v : ℕ) (r : Option (ℕ × ℕ)) → Surveyed c t v r → valueOr {T = ℕ × ℕ} r (0, 0) .1 ≡ wave-high c t v
+survey-high c t v r e = ap (λ (o : Option (ℕ × ℕ)). valueOr {T = ℕ × ℕ} o (0, 0) .1) e ∙ high-or-none (sound c) (low-of c t v) (high-of c t v)
