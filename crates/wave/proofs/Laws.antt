@@ -3,11 +3,12 @@ use mathlib.Core.Path.{_≡_, refl, sym, ap, subst, _∙_}
 use mathlib.Core.Bool.{true, false}
 use mathlib.Core.List.{List, [], _∷_, _++_}
 use mathlib.Core.Logic.{⊎-elim}
-use Prim.Native.Nat.{ℕ, _+_, _≤_, _<_}
+use Prim.Native.Nat.{ℕ, _+_, _≤_, _<_, min, max}
 use native.Mathlib.Omega.{arith}
 use lib.ListN.{length}
 use Rattle.std.proofs.shelf.Tests.{lt-leb, cases-bool, cond-true, cond-false}
 use Rattle.window.specs.Causes.{Admitted}
+use Rattle.window.specs.Meaning.{Fresh}
 use Rattle.window.specs.Faults.{Arrived, turn-causes, room-causes, take-causes}
 use Rattle.window.proofs.Refusals.{admitted-then}
 use Rattle.window.proofs.Estimates.{in-turn}
@@ -95,3 +96,19 @@ fresh-sound w m some wide least most =
 pub fresh-stands : (w m : ℕ) → 1 ≤ w → w ≤ 4294967295 → 1 ≤ m → m ≤ 6 → wave-stands (fresh w m) [] ≡ true
 fresh-stands w m some wide least most =
     stands-decides (fresh w m) [] .1 (record { sound = fresh-sound w m some wide least most; has-taken = refl; ascends = refl; ends-with-last = refl; holds-stamps = λ i k. absurd (omega (arith, held (fresh w m) _ k .taken)) })
+
+pub makes : (w f : ℕ) (r : Wave) → w ≤ 4294967295 → r ≡ fresh (max 1 w) (max 1 (min 6 f)) → Fresh wave-model w f r × (sound r ≡ true)
+makes w f r wide e =
+    let W = max 1 w in
+    let M = max 1 (min 6 f) in
+    let P : Wave → Type 0 = λ z. Fresh wave-model w f z × (sound z ≡ true) in
+    subst P (sym e) (
+      record {
+        window = refl;
+        fineness = refl;
+        stands-for-empty = fresh-stands W M (omega arith) (omega arith) (omega arith) (omega arith);
+        last = refl;
+        taken = refl;
+      },
+      sound-decides (fresh W M) .1 (fresh-sound W M (omega arith) (omega arith) (omega arith) (omega arith)),
+    )

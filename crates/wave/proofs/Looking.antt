@@ -11,7 +11,7 @@ use Rattle.std.specs.declared.option.Option.{Option}
 use Rattle.std.specs.declared.option.Option.the-variants.{Some, None}
 use Rattle.std.proofs.shelf.Tests.{and-from, le-leb, eq-eqb, ne-eqb, cases-lt, cases-eq, cases-bool, cond-true, cond-false, both-ways}
 use Rattle.std.proofs.shelf.Ways.{tells}
-use Rattle.wave.specs.Waves.{stamp-of, rank-live, oldest-live, newest-dead, low-of, high-of, in-range, sound, wave-low, wave-high}
+use Rattle.wave.specs.Waves.{stamp-of, rank-live, oldest-live, newest-dead, low-of, high-of, in-range, sound, wave-high}
 use Rattle.wave.specs.Soundness.{Sound}
 use Rattle.wave.specs.Walks.{StandsAt, Older, fits, looked, estimated}
 use Rattle.wave.specs.declared.Wave.{Wave}
@@ -66,7 +66,7 @@ low-reaches c t v r low x k kx met e f =
     (cases-bool (rank-live c t v r))
 
 -- one rank more
-pub sees-more : (c : Wave) (t v r : ℕ) (s : Seen) → Held c r → fits c r (s .oldest) ≡ true → Sees c t v (r + 1) s → Sees c t v r (looked c t v r s)
+pub sees-more : (c : Wave) (t v r : ℕ) (s : Seen) → Held c r → fits c r (stamp-of c r) (s .oldest) ≡ true → Sees c t v (r + 1) s → Sees c t v r (looked c t v r s)
 sees-more c t v r s k fit f =
     let pos : 0 < r + 1 = omega arith in
     record {
@@ -194,27 +194,27 @@ surveyed-none c t v bad =
     (cases-bool (sound c))
 
 -- a walk over a sound wave is not broken off
-pub broken-off : (c : Wave) (t v r j : ℕ) (s : Seen) → Walked c t v (Some (r, j)) s → None ≡ cond (fits c r (s .oldest)) (Some (looked c t v r s)) None → Sound c → ⊥
+pub broken-off : (c : Wave) (t v r j : ℕ) (s : Seen) → Walked c t v (Some (r, j)) s → None ≡ cond (fits c r (stamp-of c r) (s .oldest)) (Some (looked c t v r s)) None → Sound c → ⊥
 broken-off c t v r j s w e good =
     let fit = sound-fits c t v r s good (w .1) (standing c j r (w .0)) in
-    let some = cond-true (fits c r (s .oldest)) (Some (looked c t v r s)) None fit in
+    let some = cond-true (fits c r (stamp-of c r) (s .oldest)) (Some (looked c t v r s)) None fit in
     let z : _≡_ {A = ℕ} 0 1 = cc in
     omega arith
 
 -- where it goes on, one rank more is seen
-pub goes-on : (c : Wave) (t v r j : ℕ) (s more : Seen) → Walked c t v (Some (r, j)) s → Some more ≡ cond (fits c r (s .oldest)) (Some (looked c t v r s)) None → Sees c t v r more
+pub goes-on : (c : Wave) (t v r j : ℕ) (s more : Seen) → Walked c t v (Some (r, j)) s → Some more ≡ cond (fits c r (stamp-of c r) (s .oldest)) (Some (looked c t v r s)) None → Sees c t v r more
 goes-on c t v r j s more w e =
     ⊎-elim
-    (λ (fit : fits c r (s .oldest) ≡ true).
-    let some = cond-true (fits c r (s .oldest)) (Some (looked c t v r s)) None fit in
+    (λ (fit : fits c r (stamp-of c r) (s .oldest) ≡ true).
+    let some = cond-true (fits c r (stamp-of c r) (s .oldest)) (Some (looked c t v r s)) None fit in
     let same : looked c t v r s ≡ more = cc in
     let P : Seen → Type 0 = λ z. Sees c t v r z in
     subst P same (sees-more c t v r s (standing c j r (w .0)) fit (w .1)))
-    (λ (un : fits c r (s .oldest) ≡ false).
-    let none = cond-false (fits c r (s .oldest)) (Some (looked c t v r s)) None un in
+    (λ (un : fits c r (stamp-of c r) (s .oldest) ≡ false).
+    let none = cond-false (fits c r (stamp-of c r) (s .oldest)) (Some (looked c t v r s)) None un in
     let z : _≡_ {A = ℕ} 0 1 = cc in
     absurd (omega arith))
-    (cases-bool (fits c r (s .oldest)))
+    (cases-bool (fits c r (stamp-of c r) (s .oldest)))
 
 -- the settings of a sound wave
 pub ranges : (w m : ℕ) → in-range w m ≡ true → (1 ≤ w) × (w ≤ 4294967295) × (1 ≤ m) × (m ≤ 6)
@@ -228,16 +228,9 @@ pub some-sound : (b : Bool) (x : ℕ × ℕ) → isSome (cond b (Some x) None) �
 some-sound true x = refl
 some-sound false x = refl
 
-low-or-none : (b : Bool) (low high : ℕ) → valueOr {T = ℕ × ℕ} (cond b (Some (low, high)) None) (0, 0) .0 ≡ cond b low 0
-low-or-none true low high = refl
-low-or-none false low high = refl
-
 high-or-none : (b : Bool) (low high : ℕ) → valueOr {T = ℕ × ℕ} (cond b (Some (low, high)) None) (0, 0) .1 ≡ cond b high 0
 high-or-none true low high = refl
 high-or-none false low high = refl
-
-pub survey-low : (c : Wave) (t v : ℕ) (r : Option (ℕ × ℕ)) → Surveyed c t v r → valueOr {T = ℕ × ℕ} r (0, 0) .0 ≡ wave-low c t v
-survey-low c t v r e = ap (λ (o : Option (ℕ × ℕ)). valueOr {T = ℕ × ℕ} o (0, 0) .0) e ∙ low-or-none (sound c) (low-of c t v) (high-of c t v)
 
 pub survey-high : (c : Wave) (t v : ℕ) (r : Option (ℕ × ℕ)) → Surveyed c t v r → valueOr {T = ℕ × ℕ} r (0, 0) .1 ≡ wave-high c t v
 survey-high c t v r e = ap (λ (o : Option (ℕ × ℕ)). valueOr {T = ℕ × ℕ} o (0, 0) .1) e ∙ high-or-none (sound c) (low-of c t v) (high-of c t v)

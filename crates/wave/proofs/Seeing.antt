@@ -90,14 +90,14 @@ sees-down c t v from down s le none f = record {
 }
 
 -- what a rank shows that fits
-pub fits-stamp : (c : Wave) (r newer : ℕ) → 0 < r → fits c r newer ≡ true → stamp-of c r ≤ newer
+pub fits-stamp : (c : Wave) (r newer : ℕ) → 0 < r → fits c r (stamp-of c r) newer ≡ true → stamp-of c r ≤ newer
 fits-stamp c r newer pos e =
     ⊎-elim
     (λ z. absurd (omega (arith, eqb-true r 0 z)))
     (λ z. leb-true _ _ (and-parts (leb (stamp-of c r) newer) (ltb (c .taken - r) 4095 || not (is-live (c .last) (c .window) (stamp-of c r))) z .0))
     (or-cases (eqb r 0) (leb (stamp-of c r) newer && (ltb (c .taken - r) 4095 || not (is-live (c .last) (c .window) (stamp-of c r)))) e)
 
-pub fits-few : (c : Wave) (r newer : ℕ) → fits c r newer ≡ true → rank-live c (c .last) (c .window) r ≡ true → c .taken - r < 4095
+pub fits-few : (c : Wave) (r newer : ℕ) → fits c r (stamp-of c r) newer ≡ true → rank-live c (c .last) (c .window) r ≡ true → c .taken - r < 4095
 fits-few c r newer e y =
     let live = and-parts (ltb 0 r) (is-live (c .last) (c .window) (stamp-of c r)) y in
     ⊎-elim
@@ -111,7 +111,7 @@ fits-few c r newer e y =
     (or-cases (eqb r 0) (leb (stamp-of c r) newer && (ltb (c .taken - r) 4095 || not (is-live (c .last) (c .window) (stamp-of c r)))) e)
 
 -- every kept rank of a sound wave fits
-pub sound-fits : (c : Wave) (t v r : ℕ) (s : Seen) → Sound c → Sees c t v (r + 1) s → Held c r → fits c r (s .oldest) ≡ true
+pub sound-fits : (c : Wave) (t v r : ℕ) (s : Seen) → Sound c → Sees c t v (r + 1) s → Held c r → fits c r (stamp-of c r) (s .oldest) ≡ true
 sound-fits c t v r s good f k =
     ⊎-elim
     (λ (pos : 0 < r).

@@ -23,9 +23,9 @@ Older n m r None = (x : ℕ) → kept n m x ≡ true → r ≤ x
 Older n m r (Some stand) =
     (stand .0 < r) × StandsAt n m (stand .1) (stand .0) × ((x : ℕ) → kept n m x ≡ true → x < r → x ≤ stand .0)
 
--- rank r may stand below ranks whose oldest stamp is newer, as soundness asks; the mark always may
-abbrev pub fits : Wave → ℕ → ℕ → Bool
-fits c r newer = eqb r 0 || (leb (stamp-of c r) newer && (ltb (c .taken - r) 4095 || not (is-live (c .last) (c .window) (stamp-of c r))))
+-- rank r with stamp s may stand below ranks whose oldest stamp is newer, as soundness asks; the mark always may
+abbrev pub fits : Wave → ℕ → ℕ → ℕ → Bool
+fits c r s newer = eqb r 0 || (leb s newer && (ltb (c .taken - r) 4095 || not (is-live (c .last) (c .window) s)))
 
 -- what is seen after rank r
 abbrev pub looked : Wave → ℕ → ℕ → ℕ → Seen → Seen

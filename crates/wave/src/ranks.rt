@@ -48,7 +48,7 @@ fn is_near(taken: u32, fineness: u8, level: u32, rank: u32) -> bool
 }
 
 // The next kept rank below one that `level` keeps, with the lowest level that keeps it.
-pub fn older(taken: u32, fineness: u8, rank: u32, level: u32) -> Option<(u32, u32)>
+pub(crate) fn older(taken: u32, fineness: u8, rank: u32, level: u32) -> Option<(u32, u32)>
     requires fine { ⌜ fineness ≤ 6 ⌝ }
     requires stands { ⌜ StandsAt taken fineness level rank ⌝ }
     ensures older { λ r. ⌜ Older taken fineness rank r ⌝ }

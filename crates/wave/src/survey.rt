@@ -1,10 +1,12 @@
 // One walk over the kept ranks, newest first, that tests the wave and counts.
 ghost use mathlib.Core.Path.{_≡_};
-ghost use mathlib.Core.Bool.{Bool, cond};
+ghost use mathlib.Core.Bool.{_&&_, cond};
 ghost use Prim.Native.Nat.{_≤_};
+ghost use lib.Dec.{ltb};
 ghost use Rattle.std.specs.Orderings.{Decides};
 ghost use Rattle.std.specs.declared.option.Option.the-variants.{Some, None};
-ghost use Rattle.wave.specs.Waves.{stamp-of, rank-live, in-range, sound, low-of, high-of};
+ghost use Rattle.window.specs.Stamps.{is-live};
+ghost use Rattle.wave.specs.Waves.{stamp-of, in-range, sound, low-of, high-of};
 ghost use Rattle.wave.specs.Soundness.{Sound};
 ghost use Rattle.wave.specs.Walks.{fits, looked, estimated};
 use crate::Wave;
@@ -17,13 +19,13 @@ pub const LIMIT: u32 = 4095;
 
 // What is known of the ranks met so far.
 #[derive(Clone, Copy)]
-pub struct Seen {
+struct Seen {
     // the oldest stamp, or the last stamp before any
-    pub oldest: u32,
+    oldest: u32,
     // the ranks from the smallest live one on
-    pub low: u32,
+    low: u32,
     // the ranks after the largest dead one
-    pub high: Option<u32>,
+    high: Option<u32>,
 }
 
 impl Seen {
@@ -36,6 +38,13 @@ impl Seen {
         }
         (self.low, self.high.unwrap_or(self.low).min(8190))
     }
+}
+
+// Whether a rank with this stamp is live at t over v; the mark never is.
+fn is_rank_live(rank: u32, stamp: u32, t: u32, v: u32) -> bool
+    ensures live { λ r. ⌜ r ≡ (ltb 0 rank && is-live t v stamp) ⌝ }
+{
+    0 < rank && is_live(stamp, t, v)
 }
 
 impl Wave {
@@ -53,34 +62,25 @@ impl Wave {
         self.stamps[place_of(rank)]
     }
 
-    // Whether a rank is live at t over v; the mark never is.
-    fn is_rank_live(&self, t: u32, v: u32, rank: u32) -> bool
-        ensures live { λ r. ⌜ r ≡ rank-live (now (self .entry)) t v rank ⌝ }
-    {
-        0 < rank && is_live(self.stamp_of(rank), t, v)
-    }
-
-    // Whether a rank may stand below ranks whose oldest stamp is `newer`.
-    fn fits(&self, rank: u32, newer: u32) -> bool
+    // Whether a rank with this stamp may stand below ranks whose oldest stamp is `newer`.
+    fn fits(&self, rank: u32, stamp: u32, newer: u32) -> bool
         requires reached { ⌜ rank ≤ now self .taken ⌝ }
-        ensures fitting { λ r. ⌜ r ≡ fits (now (self .entry)) rank newer ⌝ }
+        ensures fitting { λ r. ⌜ r ≡ fits (now (self .entry)) rank stamp newer ⌝ }
     {
-        rank == 0
-            || self.stamp_of(rank) <= newer
-                && (self.taken - rank < LIMIT || !is_live(self.stamp_of(rank), self.last, self.window))
+        rank == 0 || stamp <= newer && (self.taken - rank < LIMIT || !is_live(stamp, self.last, self.window))
     }
 
     // What is seen after a rank; nothing where it shows that the wave is not sound.
     fn look(&self, t: u32, v: u32, rank: u32, seen: Seen) -> Option<Seen>
         requires reached { ⌜ rank ≤ now self .taken ⌝ }
-        ensures looked { λ r. ⌜ r ≡ cond (fits (now (self .entry)) rank (seen .oldest)) (Some (looked (now (self .entry)) t v rank seen)) None ⌝ }
+        ensures looked { λ r. ⌜ r ≡ cond (fits (now (self .entry)) rank (stamp-of (now (self .entry)) rank) (seen .oldest)) (Some (looked (now (self .entry)) t v rank seen)) None ⌝ }
     {
-        if !self.fits(rank, seen.oldest) {
+        let oldest = self.stamp_of(rank);
+        if !self.fits(rank, oldest, seen.oldest) {
             return None;
         }
-        let oldest = self.stamp_of(rank);
         let newer = self.taken - rank;
-        if self.is_rank_live(t, v, rank) {
+        if is_rank_live(rank, oldest, t, v) {
             Some(Seen { oldest, low: newer + 1, high: seen.high })
         } else {
             Some(Seen { oldest, low: seen.low, high: Some(seen.high.unwrap_or(newer)) })
