@@ -6,11 +6,12 @@ use Prim.Native.Nat.{ℕ, _+_, _-_, _≤_, _<_, min}
 use native.Mathlib.Omega.{arith}
 use lib.Dec.{leb, eqb}
 use lib.ListN.{length}
+use Rattle.std.specs.Orderings.{Decides}
 use Rattle.std.specs.Options.{isSome, valueOr}
 use Rattle.std.specs.declared.option.Option.{Option}
 use Rattle.std.specs.declared.option.Option.the-variants.{Some, None}
 use Rattle.std.proofs.shelf.Tests.{and-from, le-leb, eq-eqb, ne-eqb, cases-lt, cases-eq, cases-bool, cond-true, cond-false, both-ways}
-use Rattle.std.proofs.shelf.Ways.{tells}
+use Rattle.std.proofs.shelf.Ways.{tells, decides-at}
 use Rattle.wave.specs.Waves.{stamp-of, rank-live, oldest-live, newest-dead, low-of, high-of, in-range, sound, wave-high}
 use Rattle.wave.specs.Soundness.{Sound}
 use Rattle.wave.specs.Walks.{StandsAt, Older, fits, looked, estimated}
@@ -122,8 +123,8 @@ walk-on c t v r s None o f = sees-down c t v r 0 s (omega arith) (λ x met k. o 
 walk-on c t v r s (Some stand) o f = (
   o .1,
   sees-down c t v r (stand .0 + 1) s (omega (arith, o .0))
-  (λ x met k. ⊎-elim (λ (l : x < r). absurd (omega (arith, o .2 x (held-kept c x k) l))) (λ l. l) (cases-lt x r))
-  f,
+      (λ x met k. ⊎-elim (λ (l : x < r). absurd (omega (arith, o .2 x (held-kept c x k) l))) (λ l. l) (cases-lt x r))
+      f,
 )
 
 -- the walk has met every kept rank, and each fits
@@ -180,18 +181,28 @@ all-estimated c t v s f =
     (cases-eq (s .low) 0)
 
 -- what a survey gives: low and high where the wave is sound, else nothing
-abbrev pub Surveyed : Wave → ℕ → ℕ → Option (ℕ × ℕ) → Type 0
-Surveyed c t v r = r ≡ cond (sound c) (Some (low-of c t v, high-of c t v)) None
+pub record Surveyed (c : Wave) (t v : ℕ) (r : Option (ℕ × ℕ)) : Type 0 where
+  pub surveyed : r ≡ cond (sound c) (Some (low-of c t v, high-of c t v)) None
+  pub tested : Decides (isSome r) (Sound c)
 
-pub surveyed-all : (c : Wave) (t v : ℕ) (s : Seen) → Sound c → Sees c t v 0 s → Surveyed c t v (Some (estimated s))
-surveyed-all c t v s good f = ap Some (all-estimated c t v s f) ∙ sym (cond-true (sound c) (Some (low-of c t v, high-of c t v)) None (sound-decides c .1 good))
+some-sound : (b : Bool) (x : ℕ × ℕ) → isSome (cond b (Some x) None) ≡ b
+some-sound true x = refl
+some-sound false x = refl
+
+surveys : (c : Wave) (t v : ℕ) (r : Option (ℕ × ℕ)) → r ≡ cond (sound c) (Some (low-of c t v, high-of c t v)) None → Surveyed c t v r
+surveys c t v r e = record { surveyed = e; tested = decides-at (isSome r) (sound c) (ap isSome e ∙ some-sound (sound c) (low-of c t v, high-of c t v)) (sound-decides c) }
+
+pub surveyed-all : (c : Wave) (t v : ℕ) (s : Seen) (r : ℕ × ℕ) → r ≡ estimated s → Sound c → Sees c t v 0 s → Surveyed c t v (Some r)
+surveyed-all c t v s r e good f =
+    surveys c t v (Some r) (ap Some (e ∙ all-estimated c t v s f) ∙ sym (cond-true (sound c) (Some (low-of c t v, high-of c t v)) None (sound-decides c .1 good)))
 
 pub surveyed-none : (c : Wave) (t v : ℕ) → (Sound c → ⊥) → Surveyed c t v None
 surveyed-none c t v bad =
-    ⊎-elim
+    surveys c t v None
+    (⊎-elim
     (λ y. absurd (bad (sound-decides c .0 y)))
     (λ d. sym (cond-false (sound c) (Some (low-of c t v, high-of c t v)) None d))
-    (cases-bool (sound c))
+    (cases-bool (sound c)))
 
 -- a walk over a sound wave is not broken off
 pub broken-off : (c : Wave) (t v r j : ℕ) (s : Seen) → Walked c t v (Some (r, j)) s → None ≡ cond (fits c r (stamp-of c r) (s .oldest)) (Some (looked c t v r s)) None → Sound c → ⊥
@@ -223,14 +234,10 @@ ranges w m e = (grind (arith, tells), grind (arith, tells), grind (arith, tells)
 pub sound-ranges : (c : Wave) → Sound c → in-range (c .window) (c .fineness) ≡ true
 sound-ranges c s = and-from _ _ (and-from _ _ (le-leb _ _ (s .window-some)) (le-leb _ _ (s .window-fits))) (and-from _ _ (le-leb _ _ (s .fineness-least)) (le-leb _ _ (s .fineness-most)))
 
--- what a survey tells of soundness, low and high
-pub some-sound : (b : Bool) (x : ℕ × ℕ) → isSome (cond b (Some x) None) ≡ b
-some-sound true x = refl
-some-sound false x = refl
-
+-- the high that a survey tells
 high-or-none : (b : Bool) (low high : ℕ) → valueOr {T = ℕ × ℕ} (cond b (Some (low, high)) None) (0, 0) .1 ≡ cond b high 0
 high-or-none true low high = refl
 high-or-none false low high = refl
 
-pub survey-high : (c : Wave) (t v : ℕ) (r : Option (ℕ × ℕ)) → Surveyed c t v r → valueOr {T = ℕ × ℕ} r (0, 0) .1 ≡ wave-high c t v
+pub survey-high : (c : Wave) (t v : ℕ) (r : Option (ℕ × ℕ)) → r ≡ cond (sound c) (Some (low-of c t v, high-of c t v)) None → valueOr {T = ℕ × ℕ} r (0, 0) .1 ≡ wave-high c t v
 survey-high c t v r e = ap (λ (o : Option (ℕ × ℕ)). valueOr {T = ℕ × ℕ} o (0, 0) .1) e ∙ high-or-none (sound c) (low-of c t v) (high-of c t v)

@@ -90,7 +90,6 @@ agrees-decides c xs =
     (λ i. implied _ _ (itself (is-kept c (suc i))) (decides-eqb (stamp-of c (suc i)) (getD xs i 0))) (c .taken))
 
 pub stands-decides : (c : Wave) (xs : List ℕ) → Decides (wave-stands c xs) (StandsFor c xs)
-unfolding wave-stands
 stands-decides c xs = (
   (λ e.
       let a = and-parts _ _ e in

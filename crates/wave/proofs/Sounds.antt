@@ -93,4 +93,3 @@ low-high c t v s after within =
 
 pub small-sound : (c : Wave) (t v : ℕ) → high-of c t v ≤ 8190
 small-sound c t v = grind (arith, tells)
-

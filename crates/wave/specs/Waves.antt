@@ -65,7 +65,7 @@ unfoldable pub agrees : Wave → List ℕ → Bool
 agrees c xs = all-below (λ i. not (is-kept c (suc i)) || eqb (stamp-of c (suc i)) (getD xs i 0)) (c .taken)
 
 -- a sound wave stands for the arrival lists that agree with it; one that is not sound for none
-unfoldable pub wave-stands : Wave → List ℕ → Bool
+abbrev pub wave-stands : Wave → List ℕ → Bool
 wave-stands c xs = sound c && ((eqb (length xs) (c .taken) && (ascending xs && eqb (newest-stamp xs) (c .last))) && agrees c xs)
 
 -- what a wave counts: one that is not sound counts 0 and 0

@@ -3,6 +3,7 @@ ghost use mathlib.Core.Path.{_≡_};
 ghost use mathlib.Core.Bool.{_&&_, cond};
 ghost use Prim.Native.Nat.{_≤_};
 ghost use lib.Dec.{ltb};
+ghost use Rattle.std.specs.Options.{isSome};
 ghost use Rattle.std.specs.Orderings.{Decides};
 ghost use Rattle.std.specs.declared.option.Option.the-variants.{Some, None};
 ghost use Rattle.window.specs.Stamps.{is-live};
@@ -67,7 +68,9 @@ impl Wave {
         requires reached { ⌜ rank ≤ now self .taken ⌝ }
         ensures fitting { λ r. ⌜ r ≡ fits (now (self .entry)) rank stamp newer ⌝ }
     {
-        rank == 0 || stamp <= newer && (self.taken - rank < LIMIT || !is_live(stamp, self.last, self.window))
+        rank == 0
+            || stamp <= newer
+                && (self.taken - rank < LIMIT || !is_live(stamp, self.last, self.window))
     }
 
     // What is seen after a rank; nothing where it shows that the wave is not sound.
@@ -81,20 +84,33 @@ impl Wave {
         }
         let newer = self.taken - rank;
         if is_rank_live(rank, oldest, t, v) {
-            Some(Seen { oldest, low: newer + 1, high: seen.high })
+            Some(Seen {
+                oldest,
+                low: newer + 1,
+                high: seen.high,
+            })
         } else {
-            Some(Seen { oldest, low: seen.low, high: Some(seen.high.unwrap_or(newer)) })
+            Some(Seen {
+                oldest,
+                low: seen.low,
+                high: Some(seen.high.unwrap_or(newer)),
+            })
         }
     }
 
     // Low and high at t over v; nothing where the wave is not sound.
     pub fn survey(&self, t: u32, v: u32) -> Option<(u32, u32)>
         ensures surveyed { λ r. ⌜ r ≡ cond (sound (now (self .entry))) (Some (low-of (now (self .entry)) t v, high-of (now (self .entry)) t v)) None ⌝ }
+        ensures tested { λ r. ⌜ Decides (isSome r) (Sound (now (self .entry))) ⌝ }
     {
         if !self.is_in_range() {
             return None;
         }
-        let mut seen = Seen { oldest: self.last, low: 0, high: None };
+        let mut seen = Seen {
+            oldest: self.last,
+            low: 0,
+            high: None,
+        };
         let mut next = Some((self.taken, 0));
         while let Some((rank, level)) = next {
             seen = self.look(t, v, rank, seen)?;

@@ -41,7 +41,13 @@ pub fn refusal(r: Result<(), CounterFault>) -> u8 {
 }
 
 // A long run beside the exact list of its stamps, asked after each arrival.
-pub fn compare_run(rt: LibcRuntime, window: u32, fineness: u8, seed: u32, pace: u32) -> Result<(), Fail> {
+pub fn compare_run(
+    rt: LibcRuntime,
+    window: u32,
+    fineness: u8,
+    seed: u32,
+    pace: u32,
+) -> Result<(), Fail> {
     let mut wave = WaveCounter::make(window, fineness);
     let mut stamps = Vec::new(rt.alloc());
     let mut x = seed;
@@ -98,19 +104,31 @@ mod tests {
         wave.take(200)?;
         check_eq(wave.stamps, given.stamps)?;
         check_eq((wave.window, wave.fineness), (given.window, given.fineness))?;
-        check_eq((wave.last, wave.taken), (200, given.taken.saturating_add(1)))
+        check_eq(
+            (wave.last, wave.taken),
+            (200, given.taken.saturating_add(1)),
+        )
     }
 
     #[test]
     fn unsound_fineness() -> Result<(), Fail> {
-        check_unsound(Wave { fineness: 0, ..seven()? })?;
-        check_unsound(Wave { fineness: 7, ..seven()? })
+        check_unsound(Wave {
+            fineness: 0,
+            ..seven()?
+        })?;
+        check_unsound(Wave {
+            fineness: 7,
+            ..seven()?
+        })
     }
 
     // Every span is above a window of 0, but the wave takes.
     #[test]
     fn unsound_window() -> Result<(), Fail> {
-        let mut wave = Wave { window: 0, ..seven()? };
+        let mut wave = Wave {
+            window: 0,
+            ..seven()?
+        };
         check(!wave.is_sound())?;
         check(wave.count(7, 1).is_err())?;
         check_eq(refusal(wave.take(7)), 0)?;
