@@ -1,4 +1,5 @@
 // The deterministic wave: each level keeps the newest 2m + 1 of its ranks, with their stamps.
+mod arrivals;
 pub mod cases;
 pub mod counter;
 pub mod ranks;

@@ -7,7 +7,7 @@ ghost use Rattle.std.specs.Options.{isSome};
 ghost use Rattle.std.specs.Orderings.{Decides};
 ghost use Rattle.std.specs.declared.option.Option.the-variants.{Some, None};
 ghost use Rattle.window.specs.Stamps.{is-live};
-ghost use Rattle.wave.specs.Waves.{stamp-of, in-range, sound, low-of, high-of};
+ghost use Rattle.wave.specs.Waves.{stamp-of, in-range, sound, low-of, high-of, wave-low, wave-high};
 ghost use Rattle.wave.specs.Soundness.{Sound};
 ghost use Rattle.wave.specs.Walks.{fits, looked, estimated};
 use crate::Wave;
@@ -117,6 +117,14 @@ impl Wave {
             next = older(self.taken, self.fineness, rank, level);
         }
         Some(seen.estimate())
+    }
+
+    // Low and high at t over v; one that is not sound counts 0 and 0.
+    pub(crate) fn estimate(&self, t: u32, v: u32) -> (u32, u32)
+        ensures low { λ r. ⌜ r .0 ≡ wave-low (now (self .entry)) t v ⌝ }
+        ensures high { λ r. ⌜ r .1 ≡ wave-high (now (self .entry)) t v ⌝ }
+    {
+        self.survey(t, v).unwrap_or((0, 0))
     }
 
     // Whether the wave is sound.
