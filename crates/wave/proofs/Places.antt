@@ -87,3 +87,13 @@ place-apart n m r six less k e =
     (λ (hn : 11 ≤ top n). let pn = place-high n hn in apart-high n m r six less k (omega arith) (omega arith) (omega arith))
     (cases-lt (top n) 11))
     (cases-lt (top r) 11)
+
+-- two ranks that are kept together have places apart
+pub places-apart : (n m a b : ℕ) → m ≤ 6 → Kept n m a → Kept n m b → a ≢ b → place a ≢ place b
+places-apart n m a b six ka kb ne e =
+    ⊎-elim
+    (λ (l : a < b). place-apart b m a six l (record { belongs = omega arith; taken = omega arith; near = omega (arith, ka .near, kb .taken) }) e)
+    (λ (l : b ≤ a).
+    let less : b < a = omega arith in
+    place-apart a m b six less (record { belongs = omega arith; taken = omega arith; near = omega (arith, kb .near, ka .taken) }) (sym e))
+    (cases-lt a b)

@@ -1,8 +1,8 @@
 // The deterministic wave: each level keeps the newest 2m + 1 of its ranks, with their stamps.
 mod arrivals;
-pub mod cases;
 pub mod counter;
 pub mod ranks;
+pub mod rules;
 pub mod survey;
 
 // A wave as it lies in a cell. A rank kept at any level is kept at its highest one too, so its

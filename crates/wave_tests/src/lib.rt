@@ -171,13 +171,32 @@ mod tests {
         check_eq(wave.count(7, 7)?, (6, 7))
     }
 
+    // Any number taken may lie in a record.
     #[test]
     fn most_taken() -> Result<(), Fail> {
-        let mut wave = seven()?;
-        wave.taken = u32::MAX;
-        check_eq(wave.is_sound(), wave.count(7, 7)? != (0, 0))?;
+        let mut wave = Wave {
+            window: 1,
+            taken: u32::MAX,
+            stamps: [0; 104],
+            ..seven()?
+        };
+        check(wave.is_sound())?;
+        check_eq(wave.count(7, 1)?, (0, 0))?;
+        wave.stamps = [7; 104];
+        check(!wave.is_sound())?;
         check_eq(refusal(wave.take(7)), 13)?;
-        check_eq(refusal(wave.take(6)), 9)
+        check_eq(refusal(wave.take(6)), 9)?;
+        check_eq((wave.last, wave.taken), (7, u32::MAX))
+    }
+
+    #[test]
+    fn settings_in_range() -> Result<(), Fail> {
+        let least = WaveCounter::make(0, 0);
+        check_eq((least.window(), least.fineness()), (1, 1))?;
+        let most = WaveCounter::make(9, 200);
+        check_eq((most.window(), most.fineness()), (9, 6))?;
+        check_eq((most.last(), most.taken(), most.limit()), (0, 0, 4095))?;
+        check_eq(most.count(0, 9)?, (0, 0))
     }
 
     #[test]
