@@ -1,12 +1,12 @@
 -- A sound wave that takes a stamp stays sound, and its lists have the stamp at their end.
-use mathlib.Core.Path.{_≡_, refl, sym, ap, _∙_}
-use mathlib.Core.Bool.{true, false}
+use mathlib.Core.Path.{_≡_, sym, ap, _∙_}
+use mathlib.Core.Bool.{true}
 use mathlib.Core.List.{List, [], _∷_, _++_}
 use mathlib.Core.Logic.{⊎-elim}
 use Prim.Native.Nat.{ℕ, suc, _+_, _≤_, _<_}
 use native.Mathlib.Omega.{arith}
-use lib.ListN.{length, getD, set}
-use Rattle.std.proofs.shelf.Tests.{and-from, lt-ltb, cases-lt, cases-eq, cond-true, cond-false}
+use lib.ListN.{getD, set}
+use Rattle.std.proofs.shelf.Tests.{and-from, lt-ltb, cases-lt, cases-eq, cond-true}
 use Rattle.std.proofs.shelf.Lists.{length-set, getD-set-same, getD-set-other, getD-push, length-push, getD-append-left}
 use Rattle.window.specs.Stamps.{is-live}
 use Rattle.window.proofs.Arrivals.{ascends-push, last-push}

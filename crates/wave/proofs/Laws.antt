@@ -1,23 +1,20 @@
 -- The rules of a taking and of a new wave.
 use mathlib.Core.Path.{_≡_, refl, sym, ap, subst, _∙_}
-use mathlib.Core.Bool.{true, false}
-use mathlib.Core.List.{List, [], _∷_, _++_}
-use mathlib.Core.Logic.{⊎-elim}
+use mathlib.Core.Bool.{true}
+use mathlib.Core.List.{[], _∷_, _++_}
 use Prim.Native.Nat.{ℕ, _+_, _≤_, _<_, min, max}
 use native.Mathlib.Omega.{arith}
-use lib.ListN.{length}
-use Rattle.std.proofs.shelf.Tests.{lt-leb, cases-bool, cond-true, cond-false}
+use Rattle.std.proofs.shelf.Tests.{lt-leb, cond-true, cond-false}
 use Rattle.window.specs.Causes.{Admitted}
 use Rattle.window.specs.Meaning.{Fresh}
 use Rattle.window.specs.Faults.{Arrived, turn-causes, room-causes, take-causes}
 use Rattle.window.proofs.Refusals.{admitted-then}
 use Rattle.window.proofs.Estimates.{in-turn}
-use Rattle.wave.specs.Ranks.{top}
-use Rattle.wave.specs.Waves.{place, stamp-of, high-of, sound, wave-stands, wave-high, fresh, arrived, wave-model}
+use Rattle.wave.specs.Waves.{high-of, sound, wave-stands, wave-high, fresh, arrived, wave-model}
 use Rattle.wave.specs.Soundness.{Sound}
 use Rattle.wave.specs.Takings.{LevelsKeep, Grown}
 use Rattle.wave.specs.declared.Wave.{Wave}
-use Rattle.wave.proofs.Levels.{LevelKeeps, keeps-kept, keeps-decides, newest-decides, reach-pos, reach-mono}
+use Rattle.wave.proofs.Levels.{keeps-kept, keeps-decides, newest-decides, reach-pos}
 use Rattle.wave.proofs.Parts.{held, sound-decides, stands-decides}
 use Rattle.wave.proofs.Growing.{grown-by, new-stamp, old-stamp, sound-grown, stands-grown, arrived-sound}
 use Rattle.std.proofs.shelf.Bits.{pow-pos}

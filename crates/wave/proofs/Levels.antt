@@ -1,16 +1,14 @@
 -- Which ranks a level keeps, by how far back it reaches.
 use mathlib.Core.Path.{_≡_, refl, sym, ap, subst, _∙_}
-use mathlib.Core.Bool.{false}
-use mathlib.Core.Logic.{⊎-elim, _≢_}
+use mathlib.Core.Logic.{⊎-elim}
 use Prim.Native.Nat.{ℕ, zero, suc, _+_, _-_, _*_, _/_, _%_, _^_, _≤_, _<_}
 use native.Mathlib.Omega.{arith}
-use native.Mathlib.Nat.{mul-assoc, add-mul, pow-suc, mul-le-mul-left, mul-le-mul-right, mul-right-comm}
+use native.Mathlib.Nat.{mul-assoc, add-mul, pow-suc, mul-le-mul-left, mul-le-mul-right}
 use lib.Count.{trailingZeros, under}
-use lib.Dec.{leb}
 use lib.Pow.{shr-mono}
 use Rattle.std.specs.Orderings.{Decides}
-use Rattle.std.proofs.shelf.Tests.{leb-true, le-leb, and-parts, and-from, cases-lt, cases-bool}
-use Rattle.std.proofs.shelf.Ways.{decides-like, same-from-decides}
+use Rattle.std.proofs.shelf.Tests.{leb-true, le-leb, and-parts, and-from, cases-lt}
+use Rattle.std.proofs.shelf.Ways.{decides-like}
 use Rattle.std.proofs.shelf.Bits.{pow-pos, pow-below, shr-split, div-below, mod-below, shl-shr}
 use Rattle.wave.specs.Ranks.{top, keeps, kept, Newest}
 use Rattle.window.proofs.Bounded.{any-decides}
@@ -70,9 +68,6 @@ reach m j = (2 * m + 1) * 2 ^ j
 
 pub reach-pos : (m j : ℕ) → 2 ^ j ≤ reach m j
 reach-pos m j = let a = add-mul (2 * m) 1 (2 ^ j) in omega arith
-
-pub reach-suc : (m j : ℕ) → reach m (suc j) ≡ reach m j * 2
-reach-suc m j = double (2 * m + 1) j
 
 pub reach-mono : (m i j : ℕ) → i ≤ j → reach m i ≤ reach m j
 reach-mono m i j h = mul-le-mul-left (2 * m + 1) (pow-mono i j h)

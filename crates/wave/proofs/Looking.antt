@@ -1,10 +1,9 @@
 -- A walk meets one rank more, and its end: what it has seen is what the wave counts.
 use mathlib.Core.Path.{_≡_, refl, sym, ap, subst, _∙_}
 use mathlib.Core.Bool.{Bool, true, false, cond}
-use mathlib.Core.Logic.{_⊎_, inl, inr, ⊎-elim}
+use mathlib.Core.Logic.{_⊎_, inr, ⊎-elim}
 use Prim.Native.Nat.{ℕ, _+_, _-_, _≤_, _<_, min}
 use native.Mathlib.Omega.{arith}
-use lib.Dec.{leb, eqb}
 use lib.ListN.{length}
 use Rattle.std.specs.Orderings.{Decides}
 use Rattle.std.specs.Options.{isSome, valueOr}
@@ -18,10 +17,10 @@ use Rattle.wave.specs.Walks.{StandsAt, Older, fits, looked, estimated}
 use Rattle.wave.specs.declared.Wave.{Wave}
 use Rattle.wave.specs.declared.survey.Seen.{Seen}
 use Rattle.wave.proofs.Levels.{keeps-kept, keeps-decides, reach-pos}
-use Rattle.wave.proofs.Bounds.{Held, rank-pos, oldest-bound, oldest-least, oldest-is, newest-is, newest-none}
+use Rattle.wave.proofs.Bounds.{Held, rank-pos, oldest-least, oldest-is, newest-is, newest-none}
 use Rattle.wave.proofs.Parts.{held, held-kept, sound-decides}
 use Rattle.wave.proofs.Sounds.{high-none}
-use Rattle.wave.proofs.Seeing.{HighOf, Sees, LowFrom, HighFrom, OldestFrom, sees-none, sees-down, fits-stamp, fits-few, sound-fits}
+use Rattle.wave.proofs.Seeing.{HighOf, Sees, LowFrom, HighFrom, sees-none, sees-down, fits-stamp, fits-few, sound-fits}
 
 -- the largest dead rank, where rank r is met
 high-more : (c : Wave) (t v r : ℕ) (h : Option ℕ) → Held c r → HighOf c t v (r + 1) h → HighOf c t v r (cond (rank-live c t v r) h (Some (valueOr h (c .taken - r))))

@@ -1,21 +1,20 @@
 -- What is known of the kept ranks that a walk has met, from some rank on.
-use mathlib.Core.Path.{_≡_, refl, sym, ap, _∙_}
-use mathlib.Core.Bool.{Bool, true, false, _&&_, _||_, not, cond}
+use mathlib.Core.Path.{_≡_, refl}
+use mathlib.Core.Bool.{true, false, _&&_, _||_, not}
 use mathlib.Core.Logic.{_⊎_, inl, inr, ⊎-elim}
 use Prim.Native.Nat.{ℕ, _+_, _-_, _≤_, _<_}
 use native.Mathlib.Omega.{arith}
 use lib.Dec.{leb, ltb, eqb}
-use Rattle.std.specs.Options.{valueOr}
 use Rattle.std.specs.declared.option.Option.{Option}
 use Rattle.std.specs.declared.option.Option.the-variants.{Some, None}
-use Rattle.std.proofs.shelf.Tests.{and-parts, and-from, or-cases, or-left, or-right, not-true, not-from-false, ltb-true, lt-ltb, leb-true, le-leb, eqb-true, eq-eqb, cases-lt, cases-eq, cases-bool, both-ways}
+use Rattle.std.proofs.shelf.Tests.{and-parts, and-from, or-cases, or-left, or-right, not-true, not-from-false, ltb-true, lt-ltb, leb-true, le-leb, eqb-true, eq-eqb, cases-lt, cases-bool, both-ways}
 use Rattle.window.specs.Stamps.{is-live}
-use Rattle.wave.specs.Waves.{stamp-of, rank-live, low-of}
+use Rattle.wave.specs.Waves.{stamp-of, rank-live}
 use Rattle.wave.specs.Soundness.{Sound}
-use Rattle.wave.specs.Walks.{fits, looked}
+use Rattle.wave.specs.Walks.{fits}
 use Rattle.wave.specs.declared.Wave.{Wave}
 use Rattle.wave.specs.declared.survey.Seen.{Seen}
-use Rattle.wave.proofs.Bounds.{Held, oldest-least, stamp-live}
+use Rattle.wave.proofs.Bounds.{Held, oldest-least}
 use Rattle.wave.proofs.Sounds.{rise, not-late}
 
 -- a kept live rank gives the low

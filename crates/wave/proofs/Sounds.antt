@@ -1,8 +1,8 @@
--- What a sound wave counts: low and high are near, and the live number of its lists lies between.
+-- What a sound wave counts: low and high are near and small.
 use mathlib.Core.Path.{_≡_, sym, ap, _∙_}
 use mathlib.Core.Bool.{true, false}
 use mathlib.Core.Logic.{⊎-elim}
-use Prim.Native.Nat.{ℕ, _+_, _-_, _*_, _≤_, _<_}
+use Prim.Native.Nat.{ℕ, _-_, _*_, _≤_, _<_}
 use native.Mathlib.Omega.{arith}
 use native.Mathlib.Nat.{mul-le-mul-right, mul-zero, one-mul}
 use Rattle.std.proofs.shelf.Tests.{and-from, lt-ltb, le-leb, lt-leb, cases-lt, cases-eq, cond-true, cond-false, both-ways}
@@ -74,8 +74,6 @@ high-some c t v s after within some =
 
 pub high-none : (c : Wave) (t v : ℕ) → c .taken < oldest-live c t v → high-of c t v ≡ 0
 high-none c t v none = cond-false _ _ _ (lt-leb _ _ none)
-
--- the rules
 
 pub narrow-sound : (c : Wave) (t v : ℕ) → Sound c → c .last ≤ t → v ≤ c .window → c .fineness * (high-of c t v - low-of c t v) ≤ low-of c t v
 narrow-sound c t v s after within =

@@ -1,8 +1,8 @@
 -- The walk from one kept rank to the next below it.
-use mathlib.Core.Path.{_≡_, sym, ap}
+use mathlib.Core.Path.{_≡_, ap}
 use mathlib.Core.Bool.{true}
 use mathlib.Core.Logic.{⊎-elim}
-use Prim.Native.Nat.{ℕ, suc, _+_, _-_, _*_, _/_, _^_, _≤_, _<_}
+use Prim.Native.Nat.{ℕ, _+_, _-_, _*_, _/_, _^_, _≤_, _<_}
 use native.Mathlib.Omega.{arith}
 use native.Mathlib.Nat.{add-mul, mul-le-mul-right}
 use lib.Pow.{shr-mono}
@@ -11,7 +11,7 @@ use Rattle.std.proofs.shelf.Tests.{cases-lt}
 use Rattle.std.proofs.shelf.Bits.{pow-pos, shr-split}
 use Rattle.wave.specs.Ranks.{top, keeps, kept}
 use Rattle.wave.specs.Walks.{StandsAt, Older}
-use Rattle.wave.proofs.Levels.{LevelKeeps, reach, keeps-decides, kept-decides, top-le, top-divides, divides-top, whole, kept-newest}
+use Rattle.wave.proofs.Levels.{LevelKeeps, reach, keeps-decides, kept-decides, top-le, top-divides, divides-top, whole}
 
 -- the kept ranks below r are not after next, and belong to level j
 pub record Coming (n m r next j : ℕ) : Type 0 where
