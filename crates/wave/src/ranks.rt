@@ -47,7 +47,7 @@ fn is_near(taken: u32, fineness: u8, level: u32, rank: u32) -> bool
     taken - rank < (2 * fineness as u32 + 1) << level
 }
 
-// The next kept rank below one that `level` keeps, with the lowest level that keeps it.
+// The largest kept rank below one that `level` keeps, and a level that keeps it to go on from.
 pub(crate) fn older(taken: u32, fineness: u8, rank: u32, level: u32) -> Option<(u32, u32)>
     requires fine { ⌜ fineness ≤ 6 ⌝ }
     requires stands { ⌜ StandsAt taken fineness level rank ⌝ }
