@@ -5,7 +5,6 @@ mod lane;
 mod script;
 
 use course::Course;
-use ring::Ring;
 use ring::RingCounter;
 use script::Entry;
 use script::Trouble;
@@ -17,6 +16,7 @@ use std::io::BufRead;
 use std::io::BufReader;
 use std::io::BufWriter;
 use std::io::Write;
+use wave::counter::WaveCounter;
 
 const WINDOW: u32 = 3600;
 
@@ -26,6 +26,7 @@ const FINENESS: u8 = 2;
 #[derive(Drop)]
 struct Evening {
     ring: Course<RingCounter>,
+    wave: Course<WaveCounter>,
     begun: bool,
 }
 
@@ -33,24 +34,28 @@ impl Evening {
     fn new(heap: Global, window: u32, fineness: u8) -> Self {
         Evening {
             ring: Course::new(heap, "ring", window, fineness),
+            wave: Course::new(heap, "wave", window, fineness),
             begun: false,
         }
     }
 
     fn play<W: Write>(&mut self, out: &mut W, line: u64, t: u32) -> Result<(), AnyError> {
         self.begun = true;
-        self.ring.play(out, line, t)
+        self.ring.play(out, line, t)?;
+        self.wave.play(out, line, t)
     }
 
     fn ask<W: Write>(&mut self, out: &mut W, line: u64, t: u32, span: u32) -> Result<(), AnyError> {
         self.begun = true;
         writeln!(out, "at {t} over {span}")?;
-        self.ring.ask(out, line, t, span)
+        self.ring.ask(out, line, t, span)?;
+        self.wave.ask(out, line, t, span)
     }
 
     fn close<W: Write>(&self, out: &mut W) -> Result<(), AnyError> {
         writeln!(out, "the evening")?;
-        self.ring.close(out)
+        self.ring.close(out)?;
+        self.wave.close(out)
     }
 }
 

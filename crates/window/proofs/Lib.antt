@@ -2,4 +2,5 @@ pub mod Arrivals
 pub mod Refusals
 pub mod Estimates
 pub mod Bounded
+pub mod Newest
 pub mod Rotation

@@ -1,0 +1,12 @@
+pub mod Searching
+pub mod Levels
+pub mod Places
+pub mod Bounds
+pub mod Parts
+pub mod Sounds
+pub mod Standing
+pub mod Growing
+pub mod Laws
+pub mod Walking
+pub mod Seeing
+pub mod Looking
