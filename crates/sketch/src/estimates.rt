@@ -19,6 +19,15 @@ fn lowest(row: u32, high: u32, most: u32) -> u32
     if row == 0 || most < high { most } else { high }
 }
 
+// The ends of a range one level up: of the nodes wholly in it the first, and the one after the last.
+fn ends_above(lo: u32, hi: u32) -> (u32, u32)
+    requires small { ⌜ lo ≤ 1024 ⌝ }
+    ensures first { λ r. ⌜ r .0 ≡ (lo + 1) / 2 ⌝ }
+    ensures last { λ r. ⌜ r .1 ≡ hi / 2 ⌝ }
+{
+    ((lo + 1) / 2, hi / 2)
+}
+
 impl<C: Counter> Question<'_, C> {
     // The count of one cell.
     fn count(&self, level: u32, row: u32, column: u32) -> Result<(u32, u32), CellFault>
@@ -111,8 +120,7 @@ impl<C: Counter> Question<'_, C> {
                 low = low + u64::from(low_a) + u64::from(low_b);
                 high = high + u64::from(high_a) + u64::from(high_b);
             }
-            lo = (lo + 1) / 2;
-            hi /= 2;
+            (lo, hi) = ends_above(lo, hi);
         }
         Ok((low, high))
     }

@@ -5,3 +5,4 @@ pub mod places;
 pub mod question;
 pub mod shape;
 pub mod telling;
+pub mod worked;

@@ -28,6 +28,7 @@ loop-level-again g c =
     let s = shape-of (self .sketch .now) in
     let m = g .C·Counter .model in
     let kb : c .loop-level .level ≤ s .bits = omega arith in
+    let above : Ranged m s (self .cells .now) (self .enrolled) (self .t) (self .v) (c .args .first) (c .args .last) (c .loop-level .level + 1) ((c .loop-level .lo + 1) / 2) (c .loop-level .hi / 2) (c .if-lo-hi .low) (c .if-lo-hi .high) =
     elim (c .if-lo-hi .came) [
       | then-lo-hi·in-Continue-low-a·in-Continue-low-b w ↦
           let first = w .in-Continue-low-a .ensures tt .answered in
@@ -40,7 +41,8 @@ loop-level-again g c =
       | else-lo-hi w ↦ let low = w .low-is in let high = w .high-is in
           subst₂ (Ranged m s (self .cells .now) (self .enrolled) (self .t) (self .v) (c .args .first) (c .args .last) (c .loop-level .level + 1) ((c .loop-level .lo + 1) / 2) (c .loop-level .hi / 2)) (sym low) (sym high)
           (ranged-met m s (self .cells .now) (self .enrolled) (self .t) (self .v) (c .args .first) (c .args .last) (c .loop-level .level) (c .loop-level .lo) (c .loop-level .hi) (c .loop-level .low) (c .loop-level .high) kb (c .loop-level .inv) (w .if-lo-hi .left))
-    ]
+    ] in
+    subst₂ (λ lo hi. Ranged m s (self .cells .now) (self .enrolled) (self .t) (self .v) (c .args .first) (c .args .last) (c .loop-level .level + 1) lo hi (c .if-lo-hi .low) (c .if-lo-hi .high)) (sym (c .ends-above .ensures .first)) (sym (c .ends-above .ensures .last)) above
 
 pub returns-in-Break-low-a : need.returns-in-Break-low-a
 returns-in-Break-low-a g c =
