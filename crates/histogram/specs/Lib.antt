@@ -1,0 +1,4 @@
+pub mod Buckets
+pub mod Rules
+pub mod Histograms
+pub mod Cases
