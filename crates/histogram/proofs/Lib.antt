@@ -1,3 +1,6 @@
 pub mod Sizes
 pub mod Cuts
 pub mod Merging
+pub mod Filling
+pub mod Carrying
+pub mod Reading

@@ -4,7 +4,7 @@ use mathlib.Core.Bool.{Bool, true, false, _&&_, _||_, cond}
 use mathlib.Core.List.{List, [], _∷_, _++_, map, reverse}
 use Prim.Native.Nat.{ℕ, _+_, _*_, _≤_}
 use lib.Dec.{leb, eqb}
-use lib.ListN.{length, take, drop}
+use lib.ListN.{length, take, drop, getD}
 use Rattle.std.specs.shelf.Lists.{All}
 use Rattle.std.specs.declared.option.Option.{Option}
 use Rattle.std.specs.declared.option.Option.the-variants.{Some, None}
@@ -18,9 +18,13 @@ use Rattle.histogram.specs.declared.Histogram.{Histogram}
 use Rattle.histogram.specs.Buckets.{Bucket, bucket, total, falling, live-buckets, least, most, after-arrival}
 use Rattle.histogram.specs.Rules.{SoundBuckets, Taken}
 
+-- the stamps of a level's buckets, newest first
+abbrev pub in-use : Level → List ℕ
+in-use l = take (l .number) (l .stamps)
+
 -- the buckets of a level, all of size s
 abbrev pub level-buckets : ℕ → Level → List Bucket
-level-buckets s l = map (bucket s) (take (l .number) (l .stamps))
+level-buckets s l = map (bucket s) (in-use l)
 
 -- the buckets of levels, s the size of the first, each level's size double the one before
 abbrev pub buckets-from : ℕ → List Level → List Bucket
@@ -34,6 +38,15 @@ buckets c = buckets-from 1 (c .levels)
 -- a level has seven places, and no more of them are in use
 abbrev pub Places : Level → Type 0
 Places l = (length (l .stamps) ≡ 7) × (l .number ≤ 7)
+
+-- what is left of a level where stamps never rise, once the buckets dead at t over v are dropped: the live ones
+abbrev pub Trimmed : ℕ → ℕ → Level → Level → Type 0
+Trimmed t v before after = (s top : ℕ) → top ≤ t → falling top (level-buckets s before) ≡ true → level-buckets s after ≡ live-buckets t v (level-buckets s before)
+
+-- a bucket with stamp t comes first in a level: of m + 2 the two oldest leave, and the newer one's stamp is handed on
+abbrev pub Inserted : ℕ → ℕ → Level → Level → Option ℕ → Type 0
+Inserted m t before after None = (before .number ≤ m) × (in-use after ≡ t ∷ in-use before)
+Inserted m t before after (Some s) = (before .number ≡ m + 1) × (in-use after ≡ take m (t ∷ in-use before)) × (s ≡ getD (t ∷ in-use before) m 0)
 
 -- when a histogram is sound
 pub record Sound (c : Histogram) : Type 0 where

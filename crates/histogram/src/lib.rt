@@ -1,5 +1,6 @@
 // The exponential histogram: buckets of arrivals, each with a size and the stamp of its newest arrival.
 pub mod levels;
+pub mod tally;
 
 use levels::Level;
 
