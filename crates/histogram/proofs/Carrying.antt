@@ -86,7 +86,7 @@ pub carried-none : (m t : ℕ) (start : List Level) → All Places start → Car
 carried-none m t start places = record { rest = refl; long = refl; places = places; same = refl; sum = omega arith }
 
 module _ (m t : ℕ) (start now : List Level) (j a : ℕ) (c : Carried m t start now j a) (inside : j < length start) (d : Level) where
-  level-same : getD now j d ≡ getD start j d
+  pub level-same : getD now j d ≡ getD start j d
   level-same =
       let e : j + 0 ≡ j = omega arith in
       sym (ap (λ z. getD now z d) e) ∙ sym (getD-drop j now 0 d) ∙ ap (λ z. getD z 0 d) (c .rest) ∙ getD-drop j start 0 d ∙ ap (λ z. getD start z d) e

@@ -1,0 +1,41 @@
+use mathlib.Core.Path.{_≡_, sym, ap, _∙_}
+use mathlib.Core.Bool.{true, false}
+use Prim.Native.Nat.{_-_}
+use native.Mathlib.Omega.{arith}
+use borrow.Author.Needs.{needs}
+use lib.ListN.{length, getD}
+use Rattle.std.proofs.shelf.Tests.{not-true, not-false}
+use Rattle.window.specs.Stamps.{is-live}
+use Rattle.histogram.proofs.Trimming.{trimming-less, trimmed}
+use Rattle.histogram.proofs.levels.Level.trim.Needs as need
+
+pub loop-self-again : need.loop-self-again
+loop-self-again c =
+    let places : length (c .args .self .now .stamps) ≡ 7 = search needs in
+    let now = c .loop-self .self in
+    let dead : is-live (c .args .t) (c .args .v) (getD (now .stamps) (now .number - 1) 0) ≡ false = not-true _ (sym (c .if-oldest-is-dead .ensures tt .dead)) in
+    (
+      trimming-less (c .args .t) (c .args .v) (c .args .self .now .stamps) (c .args .self .now .number) (now .number) (c .loop-self .inv .0) (c .loop-self-test .taken) (omega (arith, c .loop-self .inv .0 .fewer))
+      (ap (λ z. is-live (c .args .t) (c .args .v) (getD z (now .number - 1) 0)) (sym (c .loop-self .inv .1)) ∙ dead),
+      c .loop-self .inv .1,
+    )
+
+pub returns-else-oldest-is-dead : need.returns-else-oldest-is-dead
+returns-else-oldest-is-dead c =
+    let places : length (c .args .self .now .stamps) ≡ 7 = search needs in
+    let inv = c .loop-self .inv in
+    record {
+      stamps = inv .1;
+      fewer = inv .0 .fewer;
+      trimmed = trimmed (c .args .t) (c .args .v) (c .args .self .now) (c .loop-self .self) (inv .0) (inv .1) (omega (arith, inv .0 .fewer)) (λ _. not-false _ (sym (c .if-oldest-is-dead .ensures tt .dead)));
+    }
+
+pub returns-after-loop-self : need.returns-after-loop-self
+returns-after-loop-self c =
+    let places : length (c .args .self .now .stamps) ≡ 7 = search needs in
+    let inv = c .loop-self .inv in
+    record {
+      stamps = inv .1;
+      fewer = inv .0 .fewer;
+      trimmed = trimmed (c .args .t) (c .args .v) (c .args .self .now) (c .loop-self .self) (inv .0) (inv .1) (omega (arith, inv .0 .fewer)) (λ some. absurd (omega arith));
+    }
