@@ -124,8 +124,8 @@ module _ (m t : ℕ) (start now : List Level) (j a : ℕ) (c : Carried m t start
         long = length-set now j l ∙ c .long;
         places = all-set Places now j l places (c .places);
         same = c .same ∙ ap (λ z. buckets-from 1 (take j now) ++ z) step
-        ∙ sym (append-assoc (buckets-from 1 (take j now)) (level-buckets (2 ^ j) l) (settle m 1 (bucket (2 ^ (j + 1)) b) tail))
-        ∙ sym (ap (λ z. z ++ settle m 1 (bucket (2 ^ (j + 1)) b) tail) wider);
+            ∙ sym (append-assoc (buckets-from 1 (take j now)) (level-buckets (2 ^ j) l) (settle m 1 (bucket (2 ^ (j + 1)) b) tail))
+            ∙ sym (ap (λ z. z ++ settle m 1 (bucket (2 ^ (j + 1)) b) tail) wider);
         sum = omega (arith, c .sum, ap total here, total-append (level-buckets (2 ^ j) old) tail, total-two (2 ^ j) (in-use old) (omega (arith, i .0)), twice);
       }
 

@@ -158,8 +158,8 @@ filled-by m s i k (l ∷ ls) pos power places f =
     and-from _ _ may (filled-by m (2 * s) (i + 1) (l .number) ls (omega arith) (double-power s i power) (places .1) (record {
       crowded = λ x h. omega (arith, f .crowded x (omega arith), above x h);
       before = λ h. let big : s < largest (buckets-from s (l ∷ ls)) = omega (arith, both, largest-from (2 * s) ls h) in
-      let enough : m ≤ how-many s (buckets-from s (l ∷ ls)) = subst (λ z. m ≤ how-many z (buckets-from s (l ∷ ls))) (sym power) (f .skipped i (omega arith) (omega arith)) in
-      omega arith;
+          let enough : m ≤ how-many s (buckets-from s (l ∷ ls)) = subst (λ z. m ≤ how-many z (buckets-from s (l ∷ ls))) (sym power) (f .skipped i (omega arith) (omega arith)) in
+          omega arith;
       skipped = λ j h g. omega (arith, f .skipped j (omega arith) (omega (arith, both)), above (2 ^ j) h);
     }))
 

@@ -6,3 +6,5 @@ pub mod Shifting
 pub mod Trimming
 pub mod Carrying
 pub mod Reading
+pub mod Passing
+pub mod Laws

@@ -20,12 +20,12 @@ shifted-none t ys = record { front = refl; rest = refl; next = refl; long = refl
 pub shifted-more : (t : ℕ) (ys now : List ℕ) (i moved : ℕ) → Shifted t ys now i moved → i < length ys → Shifted t ys (set now i moved) (i + 1) (getD now i 0)
 shifted-more t ys now i moved s inside = record {
   front = take-more-set now i moved (omega (arith, s .long)) ∙ ap (λ z. z ++ (moved ∷ [])) (s .front) ∙ ap (λ z. take i (t ∷ ys) ++ (z ∷ [])) (s .next)
-  ∙ sym (take-more (t ∷ ys) i 0 (omega arith));
+      ∙ sym (take-more (t ∷ ys) i 0 (omega arith));
   rest = drop-set-lt (i + 1) now i moved (omega arith) ∙ sym (drop-drop 1 i now) ∙ ap (drop 1) (s .rest) ∙ drop-drop 1 i ys;
   next =
-    let e : i + 0 ≡ i = omega arith in
-    sym (ap (λ z. getD now z 0) e) ∙ sym (getD-drop i now 0 0) ∙ ap (λ z. getD z 0 0) (s .rest) ∙ getD-drop i ys 0 0 ∙ ap (λ z. getD ys z 0) e
-    ∙ sym (ap (λ z. getD (t ∷ ys) z 0) (add-one i));
+      let e : i + 0 ≡ i = omega arith in
+      sym (ap (λ z. getD now z 0) e) ∙ sym (getD-drop i now 0 0) ∙ ap (λ z. getD z 0 0) (s .rest) ∙ getD-drop i ys 0 0 ∙ ap (λ z. getD ys z 0) e
+      ∙ sym (ap (λ z. getD (t ∷ ys) z 0) (add-one i));
   long = length-set now i moved ∙ s .long;
 }
 

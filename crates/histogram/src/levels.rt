@@ -10,7 +10,6 @@ ghost use Rattle.window.specs.Stamps.{is-live};
 ghost use Rattle.histogram.specs.declared.levels.Level.{Level as OneLevel};
 ghost use Rattle.histogram.specs.Buckets.{bucket, total, falling, live-buckets, settle};
 ghost use Rattle.histogram.specs.Histograms.{in-use, buckets-from, Places, Trimmed, Inserted};
-
 use window::stamps::is_live;
 
 // How many buckets of one size there are, and their stamps, newest first.
@@ -111,6 +110,7 @@ pub fn carry_in(levels: &mut [Level; 12], fineness: u8, t: u32)
     requires places { ⌜ All Places (now levels) ⌝ }
     requires few { ⌜ All (λ (l : OneLevel). l .number ≤ fineness + 1) (now levels) ⌝ }
     requires room { ⌜ total (buckets-from 1 (now levels)) < 4095 ⌝ }
+    ensures twelve { λ _. ⌜ length (now (levels .exit)) ≡ 12 ⌝ }
     ensures places { λ _. ⌜ All Places (now (levels .exit)) ⌝ }
     ensures settled { λ _. ⌜ buckets-from 1 (now (levels .exit)) ≡ settle fineness 1 (bucket 1 t) (buckets-from 1 (now (levels .entry))) ⌝ }
 {

@@ -1,11 +1,12 @@
 // One pass over buckets, newest first: whether stamps rise, and what is counted.
+ghost use mathlib.Core.Path.{_≡_};
 ghost use mathlib.Core.List.{map};
 ghost use Prim.Native.Nat.{_+_, _*_, _^_, _≤_, _<_};
+ghost use lib.Dec.{ltb};
 ghost use lib.ListN.{length};
 ghost use Rattle.std.specs.Options.{Cases};
 ghost use Rattle.histogram.specs.Buckets.{bucket};
 ghost use Rattle.histogram.specs.Readings.{Widened, GoesOn};
-
 use window::stamps::is_live;
 
 // Of the buckets read so far: the oldest stamp, the sum of sizes, and low and high.
@@ -18,6 +19,13 @@ pub struct Tally {
 }
 
 impl Tally {
+    // Whether a stamp is above the oldest one so far.
+    fn rises(&self, stamp: u32) -> bool
+        ensures above { λ r. ⌜ r ≡ ltb (now (self .entry) .top) stamp ⌝ }
+    {
+        stamp > self.top
+    }
+
     // The tally with one older bucket; where it is live it is the oldest live one so far.
     fn widened(self, size: u32, stamp: u32, t: u32, v: u32) -> Tally
         requires some { ⌜ 0 < size ⌝ }
@@ -27,9 +35,18 @@ impl Tally {
     {
         let sum = self.sum + size;
         if is_live(stamp, t, v) {
-            return Tally { top: stamp, sum, low: self.high + 1, high: self.high + size };
+            return Tally {
+                top: stamp,
+                sum,
+                low: self.high + 1,
+                high: self.high + size,
+            };
         }
-        Tally { top: stamp, sum, ..self }
+        Tally {
+            top: stamp,
+            sum,
+            ..self
+        }
     }
 
     // The tally with the buckets of one size more, None where a stamp rises.
@@ -43,7 +60,7 @@ impl Tally {
     {
         let mut tally = self;
         for stamp in stamps {
-            if *stamp > tally.top {
+            if tally.rises(*stamp) {
                 return None;
             }
             tally = tally.widened(size, *stamp, t, v);

@@ -5,6 +5,7 @@ use native.Mathlib.Omega.{arith}
 use lib.ListN.{length, getD}
 use lib.Pow.{pow-pos}
 use borrow.Author.Needs.{needs}
+use Rattle.std.proofs.shelf.Lists.{length-set}
 use Rattle.std.proofs.shelf.Elements.{all-getD, all-set}
 use Rattle.histogram.specs.declared.levels.Level.{Level}
 use Rattle.histogram.specs.Histograms.{Places}
@@ -29,6 +30,7 @@ returns-in-rest c =
     let none : Level = record { number = 0; stamps = [] } in
     let inside : l .level-index < length (c .args .levels .now) = omega (arith, c .told-levels) in
     record {
+      twelve = length-set (l .levels) (l .level-index) (c .insert .last .self) ∙ l .inv .long ∙ c .told-levels;
       places = all-set Places (l .levels) (l .level-index) (c .insert .last .self) (c .in-rest .ensures tt .places) (l .inv .places);
       settled = carried-done (c .args .fineness) (c .args .t) (c .args .levels .now) (l .levels) (l .level-index) (l .arriving) (l .inv) inside none (c .insert .last .self) (c .in-rest .ensures tt .inserted) (pow-pos (l .level-index));
     }

@@ -13,10 +13,9 @@ pub loop-self-again : need.loop-self-again
 loop-self-again c =
     let places : length (c .args .self .now .stamps) ≡ 7 = search needs in
     let now = c .loop-self .self in
-    let dead : is-live (c .args .t) (c .args .v) (getD (now .stamps) (now .number - 1) 0) ≡ false = not-true _ (sym (c .if-oldest-is-dead .ensures tt .dead)) in
-    (
+    let dead : is-live (c .args .t) (c .args .v) (getD (now .stamps) (now .number - 1) 0) ≡ false = not-true _ (sym (c .if-oldest-is-dead .ensures tt .dead)) in (
       trimming-less (c .args .t) (c .args .v) (c .args .self .now .stamps) (c .args .self .now .number) (now .number) (c .loop-self .inv .0) (c .loop-self-test .taken) (omega (arith, c .loop-self .inv .0 .fewer))
-      (ap (λ z. is-live (c .args .t) (c .args .v) (getD z (now .number - 1) 0)) (sym (c .loop-self .inv .1)) ∙ dead),
+          (ap (λ z. is-live (c .args .t) (c .args .v) (getD z (now .number - 1) 0)) (sym (c .loop-self .inv .1)) ∙ dead),
       c .loop-self .inv .1,
     )
 

@@ -1,9 +1,10 @@
-use mathlib.Core.Path.{ap, subst}
+use mathlib.Core.Path.{sym, ap, subst}
 use mathlib.Core.List.{map}
 use Prim.Native.Nat.{_≤_}
 use native.Mathlib.Omega.{arith}
 use native.Mathlib.Nat.{mul-le-mul-right}
 use lib.Seq.{take-all}
+use Rattle.std.proofs.shelf.Tests.{ltb-true, ltb-false}
 use Rattle.histogram.specs.Buckets.{bucket}
 use Rattle.histogram.specs.Readings.{GoesOn}
 use Rattle.std.specs.declared.option.Option.the-variants.{Some, None}
@@ -13,9 +14,9 @@ use Rattle.histogram.proofs.tally.Tally.read.Needs as need
 pub loop-stamp-holds : need.loop-stamp-holds
 loop-stamp-holds c = (reading-none (c .args .t) (c .args .v) (c .args .self), c .pre .high, omega arith)
 
-pub returns-then-stamp-tally : need.returns-then-stamp-tally
-returns-then-stamp-tally c = record {
-  goes-on = reading-rises (c .args .t) (c .args .v) (c .args .size) (c .loop-stamp .stamp-index) (c .args .stamps .now) (c .args .self) (c .loop-stamp .tally) (c .loop-stamp-test .taken) (c .loop-stamp .inv .0) (c .if-stamp-tally .taken);
+pub returns-then-rises : need.returns-then-rises
+returns-then-rises c = record {
+  goes-on = reading-rises (c .args .t) (c .args .v) (c .args .size) (c .loop-stamp .stamp-index) (c .args .stamps .now) (c .args .self) (c .loop-stamp .tally) (c .loop-stamp-test .taken) (c .loop-stamp .inv .0) (ltb-true _ _ (sym (c .if-rises .ensures tt .above)));
   bounded = tt;
 }
 
@@ -27,9 +28,8 @@ widened-tally-requires c κs =
 pub loop-stamp-again : need.loop-stamp-again
 loop-stamp-again c =
     let more = size-more (c .loop-stamp .stamp-index) (c .args .size) (omega (arith, c .loop-stamp-test .taken, c .pre .few)) in
-    let wide = c .widened-tally .ensures .widened in
-    (
-      reading-more (c .args .t) (c .args .v) (c .args .size) (c .loop-stamp .stamp-index) (c .args .stamps .now) (c .args .self) (c .loop-stamp .tally) (c .widened-tally .result) (c .loop-stamp-test .taken) (c .loop-stamp .inv .0) (c .if-stamp-tally .left) wide,
+    let wide = c .widened-tally .ensures .widened in (
+      reading-more (c .args .t) (c .args .v) (c .args .size) (c .loop-stamp .stamp-index) (c .args .stamps .now) (c .args .self) (c .loop-stamp .tally) (c .widened-tally .result) (c .loop-stamp-test .taken) (c .loop-stamp .inv .0) (ltb-false _ _ (sym (c .if-rises .ensures tt .above))) wide,
       high-within _ _ _ _ _ _ wide (c .loop-stamp .inv .1),
       omega (arith, wide .sum, more .0, c .loop-stamp .inv .2),
     )
