@@ -7,12 +7,15 @@ use Prim.Native.Nat.{ℕ, zero, suc, _+_, _*_, _≤_, _<_}
 use native.Mathlib.Omega.{arith}
 use lib.Dec.{leb, eqb}
 use lib.ListN.{length, take, drop}
+use Rattle.std.specs.shelf.Lists.{All}
+use Rattle.std.proofs.shelf.Elements.{kept-by-passes}
+use Rattle.std.proofs.shelf.Ways.{tells}
 use Rattle.std.proofs.shelf.Lists.{length-take, length-drop, drop-drop}
 use Rattle.std.proofs.shelf.Tests.{and-parts, and-from, leb-true, le-leb, eqb-true, eq-eqb, cases-bool, cond-true, cond-false, cond-both, false≢true}
 use Rattle.window.specs.Stamps.{is-live, live-count}
 use Rattle.window.proofs.Arrivals.{live-yes, live-no, live-split, live-le, later-live}
 use Rattle.window.proofs.NewestFirst.{Down, down-drop, older-dead, down-dead, stays-dead}
-use Rattle.histogram.specs.Buckets.{Bucket, bucket, total, falling, live-buckets, other-sizes, least, settle}
+use Rattle.histogram.specs.Buckets.{Bucket, bucket, total, falling, live-buckets, other-sizes, least, settle, after-arrival}
 use Rattle.histogram.specs.Histograms.{begins, cut}
 use Rattle.histogram.proofs.Sizes.{Shaped, end, more, next}
 
@@ -200,3 +203,22 @@ cut-settle t w m n h (b ∷ bs) ys c =
     (λ _. cut-settle t w m 1 (bucket (2 * h .size) (h .stamp)) bs ys (cut-merge t w h b bs ys (eqb-true _ _ e) c))
     (λ _. parts-to t w h (settle m (n + 1) b bs) ys (record { newest = p .newest; enough = p .enough; rest = cut-settle t w m (n + 1) b bs (drop (h .size) ys) (p .rest) })))
     (λ _. c)
+
+-- what an arrival leaves is live
+settle-all : (P : ℕ → Type 0) (m n : ℕ) (h : Bucket) (bs : List Bucket) → P (h .stamp) → All (λ b. P (b .stamp)) bs → All (λ b. P (b .stamp)) (settle m n h bs)
+settle-all P m n h [] e a = (e, tt)
+settle-all P m n h (b ∷ bs) e a =
+    cond-both (eqb (b .size) (h .size)) _ _ (All (λ d. P (d .stamp)))
+    (λ _. cond-both (leb (m + 1) n) _ _ (All (λ d. P (d .stamp)))
+    (λ _. settle-all P m 1 (bucket (2 * h .size) (h .stamp)) bs e (a .1))
+    (λ _. (e, settle-all P m (n + 1) b bs (a .0) (a .1))))
+    (λ _. (e, a))
+
+all-live-kept : (t v : ℕ) (bs : List Bucket) → All (λ b. is-live t v (b .stamp) ≡ true) bs → live-buckets t v bs ≡ bs
+all-live-kept t v [] a = refl
+all-live-kept t v (b ∷ bs) a = live-first t v b bs (a .0) ∙ ap (λ ls. b ∷ ls) (all-live-kept t v bs (a .1))
+
+pub live-settle : (t w m : ℕ) (bs : List Bucket) → 1 ≤ w → live-buckets t w (after-arrival m w t bs) ≡ after-arrival m w t bs
+live-settle t w m bs some =
+    let new : is-live t w t ≡ true = grind (arith, tells) in
+    all-live-kept t w (after-arrival m w t bs) (settle-all (λ s. is-live t w s ≡ true) m 1 (bucket 1 t) (live-buckets t w bs) new (kept-by-passes (λ b. is-live t w (b .stamp)) bs))

@@ -1,153 +1,30 @@
 -- Histograms keep the rules of a window counter, and an arrival leaves a sound one sound.
 use mathlib.Core.Path.{_≡_, refl, sym, ap, subst, _∙_}
-use mathlib.Core.Bool.{true, false, _&&_, cond}
+use mathlib.Core.Bool.{Bool, true, false, cond}
 use mathlib.Core.List.{List, [], _∷_, _++_, reverse}
 use mathlib.Core.Logic.{⊎-elim}
 use Prim.Native.Nat.{ℕ, zero, suc, _+_, _-_, _*_, _≤_, _<_}
 use native.Mathlib.Omega.{arith}
 use native.Mathlib.Nat.{mul-zero}
-use lib.Dec.{leb, eqb}
+use lib.Dec.{leb}
 use lib.ListN.{length, replicate}
-use Rattle.std.specs.Orderings.{Decides}
 use Rattle.std.specs.shelf.Lists.{All}
-use Rattle.std.specs.Options.{isSome, valueOr}
-use Rattle.std.specs.declared.option.Option.{Option}
-use Rattle.std.specs.declared.option.Option.the-variants.{Some, None}
 use Rattle.std.proofs.shelf.Lists.{length-push, reverse-append}
-use Rattle.std.proofs.shelf.Tests.{both-ways, and-parts, and-from, leb-true, le-leb, eqb-true, eq-eqb, cases-bool, cond-true, cond-false}
-use Rattle.window.specs.Stamps.{live-count, ascending, newest-stamp}
+use Rattle.std.proofs.shelf.Tests.{and-parts, and-from, le-leb, eqb-true, eq-eqb, cases-bool, cond-false}
+use Rattle.window.specs.Stamps.{ascending, newest-stamp}
 use Rattle.window.specs.Meaning.{Keeps, Permitted, Between}
 use Rattle.window.specs.Faults.{Arrived}
 use Rattle.window.proofs.Arrivals.{ascends-push, last-push}
 use Rattle.window.proofs.NewestFirst.{Down, down-reverse, live-reverse}
 use Rattle.histogram.specs.declared.levels.Level.{Level}
-use Rattle.histogram.specs.declared.tally.Tally.{Tally}
 use Rattle.histogram.specs.declared.Histogram.{Histogram}
-use Rattle.histogram.specs.Buckets.{Bucket, bucket, total, falling, live-buckets, least, most, after-arrival}
+use Rattle.histogram.specs.Buckets.{Bucket, bucket, total, live-buckets, most, after-arrival}
 use Rattle.histogram.specs.Rules.{SoundBuckets, Taken}
-use Rattle.histogram.specs.Histograms.{buckets, Places, Sound, in-range, placed, may-follow, filled, sound, low-at, high-at, cut, stands-for, histogram-model, Reads, Arrives}
-use Rattle.histogram.proofs.Sizes.{Shaped, settle-ahead, total-settle, most-is-total, near}
-use Rattle.histogram.proofs.Cuts.{falling-raise, falling-live, shaped-live, total-live, falling-settle, high-bounds, low-bounds, cut-live, cut-push, cut-settle}
+use Rattle.histogram.specs.Histograms.{empty-level, buckets, Places, Sound, may-follow, filled, sound, low-at, high-at, cut, stands-for, histogram-model, Arrives}
+use Rattle.histogram.proofs.Sizes.{settle-ahead, total-settle, most-is-total, near}
+use Rattle.histogram.proofs.Cuts.{falling-raise, falling-live, shaped-live, total-live, live-settle, falling-settle, high-bounds, low-bounds, cut-live, cut-push, cut-settle}
 use Rattle.histogram.proofs.Merging.{sound-buckets, arrival-by-the-rule}
-use Rattle.histogram.proofs.Filling.{shaped-levels, levels-few, sound-filled}
-use Rattle.histogram.proofs.Passing.{Passed}
-
--- the parts of the test
-pub record Tested (c : Histogram) : Type 0 where
-  pub ranges : in-range (c .window) (c .fineness) ≡ true
-  pub levels : length (c .levels) ≡ 12
-  pub places : All Places (c .levels)
-  pub fills : filled (c .fineness) (c .fineness) (c .levels) ≡ true
-  pub falls : falling (c .last) (buckets c) ≡ true
-  pub sum : total (buckets c) ≤ 4095
-
-pub record Ranges (w m : ℕ) : Type 0 where
-  pub some-window : 1 ≤ w
-  pub window-fits : w ≤ 4294967295
-  pub some-fineness : 1 ≤ m
-  pub fineness-fits : m ≤ 6
-
-pub ranges-from : (w m : ℕ) → in-range w m ≡ true → Ranges w m
-ranges-from w m e =
-    let a = and-parts (leb 1 w && leb w 4294967295) (leb 1 m && leb m 6) e in
-    let b = and-parts (leb 1 w) (leb w 4294967295) (a .0) in
-    let d = and-parts (leb 1 m) (leb m 6) (a .1) in
-    record { some-window = leb-true _ _ (b .0); window-fits = leb-true _ _ (b .1); some-fineness = leb-true _ _ (d .0); fineness-fits = leb-true _ _ (d .1) }
-
-ranges-to : (w m : ℕ) → 1 ≤ w → w ≤ 4294967295 → 1 ≤ m → m ≤ 6 → in-range w m ≡ true
-ranges-to w m a b d e = and-from (leb 1 w && leb w 4294967295) (leb 1 m && leb m 6) (and-from _ _ (le-leb _ _ a) (le-leb _ _ b)) (and-from _ _ (le-leb _ _ d) (le-leb _ _ e))
-
-placed-from : (ls : List Level) → placed ls ≡ true → All Places ls
-placed-from [] e = tt
-placed-from (l ∷ ls) e =
-    let a = and-parts (eqb (length (l .stamps)) 7 && leb (l .number) 7) (placed ls) e in
-    let b = and-parts (eqb (length (l .stamps)) 7) (leb (l .number) 7) (a .0) in
-    ((eqb-true _ _ (b .0), leb-true _ _ (b .1)), placed-from ls (a .1))
-
-placed-to : (ls : List Level) → All Places ls → placed ls ≡ true
-placed-to [] p = refl
-placed-to (l ∷ ls) p = and-from (eqb (length (l .stamps)) 7 && leb (l .number) 7) (placed ls) (and-from _ _ (eq-eqb _ _ (p .0 .0)) (le-leb _ _ (p .0 .1))) (placed-to ls (p .1))
-
-pub tested-from : (c : Histogram) → sound c ≡ true → Tested c
-unfolding sound
-tested-from c e =
-    let a = and-parts _ _ e in
-    let b = and-parts _ _ (a .1) in
-    let l = and-parts _ _ (b .0) in
-    let f = and-parts _ _ (b .1) in
-    let g = and-parts _ _ (f .1) in
-    record { ranges = a .0; levels = eqb-true _ _ (l .0); places = placed-from (c .levels) (l .1); fills = f .0; falls = g .0; sum = leb-true _ _ (g .1) }
-
-tested-to : (c : Histogram) → Tested c → sound c ≡ true
-unfolding sound
-tested-to c s =
-    and-from _ _ (s .ranges) (and-from _ _ (and-from _ _ (eq-eqb _ _ (s .levels)) (placed-to (c .levels) (s .places)))
-    (and-from _ _ (s .fills) (and-from _ _ (s .falls) (le-leb _ _ (s .sum)))))
-
--- one part that fails
-unsound : (c : Histogram) → (Tested c → ⊥) → sound c ≡ false
-unsound c fails = ⊎-elim (λ e. absurd (fails (tested-from c e))) (λ e. e) (cases-bool (sound c))
-
-pub unsound-ranges : (c : Histogram) → in-range (c .window) (c .fineness) ≡ false → sound c ≡ false
-unsound-ranges c e = unsound c (λ s. both-ways _ e (s .ranges))
-
-pub unsound-fills : (c : Histogram) → filled (c .fineness) (c .fineness) (c .levels) ≡ false → sound c ≡ false
-unsound-fills c e = unsound c (λ s. both-ways _ e (s .fills))
-
-pub unsound-falls : (c : Histogram) → falling (c .last) (buckets c) ≡ false → sound c ≡ false
-unsound-falls c e = unsound c (λ s. both-ways _ e (s .falls))
-
-pub unsound-sum : (c : Histogram) → 4095 < total (buckets c) → sound c ≡ false
-unsound-sum c e = unsound c (λ s. omega (arith, s .sum))
-
--- the sizes of a sound histogram's buckets
-pub shaped : (c : Histogram) → Tested c → Shaped (c .fineness) 1 0 (buckets c)
-shaped c s = shaped-levels (c .fineness) (c .levels) (ranges-from (c .window) (c .fineness) (s .ranges) .some-fineness) (s .places) (s .fills)
-
--- the test decides what a sound histogram is
-pub sound-decided : (c : Histogram) → Decides (sound c) (Sound c)
-sound-decided c = (
-  (λ e. let s = tested-from c e in
-      let r = ranges-from (c .window) (c .fineness) (s .ranges) in
-      record {
-        some-window = r .some-window;
-        window-fits = r .window-fits;
-        some-fineness = r .some-fineness;
-        fineness-fits = r .fineness-fits;
-        twelve-levels = s .levels;
-        seven-places = s .places;
-        sound-buckets = sound-buckets (c .fineness) (c .last) (buckets c) (r .some-fineness) (shaped c s) (s .sum) (s .falls);
-      }),
-  (λ s. tested-to c (record {
-    ranges = ranges-to (c .window) (c .fineness) (s .some-window) (s .window-fits) (s .some-fineness) (s .fineness-fits);
-    levels = s .twelve-levels;
-    places = s .seven-places;
-    fills = sound-filled (c .fineness) (c .last) (c .levels) (s .seven-places) (s .sound-buckets);
-    falls = s .sound-buckets .stamps-never-rise;
-    sum = s .sound-buckets .sum-bounded;
-  })),
-)
-
-pub low-sound : (c : Histogram) (t v : ℕ) → sound c ≡ true → low-at c t v ≡ least (live-buckets t v (buckets c))
-low-sound c t v e = cond-true (sound c) _ _ e
-
-pub high-sound : (c : Histogram) (t v : ℕ) → sound c ≡ true → high-at c t v ≡ most (live-buckets t v (buckets c))
-high-sound c t v e = cond-true (sound c) _ _ e
-
--- a pass to the end, with a sum that may be, reads a sound histogram
-pub pass-reads : (c : Histogram) (t v : ℕ) (a : Tally) → in-range (c .window) (c .fineness) ≡ true → length (c .levels) ≡ 12 → Passed (c .fineness) (c .last) t v (c .levels) a → leb (a .sum) 4095 ≡ true → Reads c t v (Some (a .low, a .high))
-pass-reads c t v a ranges twelve p sum =
-    let e : sound c ≡ true = tested-to c (record { ranges = ranges; levels = twelve; places = p .places; fills = p .fills; falls = p .tells .falls; sum = omega (arith, leb-true (a .sum) 4095 sum, p .tells .sum) }) in
-    (e, p .tells .low ∙ sym (low-sound c t v e), p .tells .high ∙ sym (high-sound c t v e))
-
--- a reading tells whether the histogram is sound, and low and high
-pub reads-sound : (c : Histogram) (t v : ℕ) (r : Option (ℕ × ℕ)) → Reads c t v r → isSome r ≡ sound c
-reads-sound c t v None e = sym e
-reads-sound c t v (Some pair) e = sym (e .0)
-
-pub reads-pair : (c : Histogram) (t v : ℕ) (r : Option (ℕ × ℕ)) → Reads c t v r → (valueOr r (0, 0) .0 ≡ low-at c t v) × (valueOr r (0, 0) .1 ≡ high-at c t v)
-reads-pair c t v None e = (sym (cond-false (sound c) _ _ e), sym (cond-false (sound c) _ _ e))
-reads-pair c t v (Some pair) e = (e .1, e .2)
+use Rattle.histogram.proofs.Soundness.{Parts, parts-from, parts-to, ranges-from, ranges-to, shaped, sound-decided, low-sound, high-sound}
 
 -- the parts of `stands-for`
 record Standing (c : Histogram) (xs : List ℕ) : Type 0 where
@@ -178,7 +55,7 @@ newest-first c xs s = subst (λ z. Down z 0 (reverse xs)) (s .ends) (down-revers
 lies-between : (c : Histogram) (t v : ℕ) → Permitted (c .last) (c .window) t v → Between histogram-model c t v (low-at c t v) (high-at c t v)
 lies-between c t v p xs e =
     let s = standing-from c xs e in
-    let h = tested-from c (s .fit) in
+    let h = parts-from c (s .fit) in
     let low = low-bounds t v (c .last) (c .window) 0 (p .in-time) (p .within) (c .last) (buckets c) (reverse xs) (omega arith) (h .falls) (newest-first c xs s) (s .cuts) in
     let high = high-bounds t v (c .last) (c .window) 0 (p .in-time) (p .within) (c .last) (buckets c) (reverse xs) (omega arith) (h .falls) (newest-first c xs s) (s .cuts) in (
       omega (arith, low, low-sound c t v (s .fit), live-reverse t v xs),
@@ -188,7 +65,7 @@ lies-between c t v p xs e =
 estimates-near : (c : Histogram) (t v : ℕ) → Permitted (c .last) (c .window) t v → c .fineness * (high-at c t v - low-at c t v) ≤ low-at c t v
 estimates-near c t v p =
     ⊎-elim
-    (λ e. let h = tested-from c e in
+    (λ e. let h = parts-from c e in
     let n = near (c .fineness) (live-buckets t v (buckets c)) (shaped-live t v (c .last) (c .fineness) 1 0 (buckets c) (p .in-time) (h .falls) (shaped c h)) in
     rw (low-sound c t v e, high-sound c t v e) n)
     (λ e. let l : low-at c t v ≡ 0 = cond-false (sound c) _ _ e in let h : high-at c t v ≡ 0 = cond-false (sound c) _ _ e in
@@ -198,7 +75,7 @@ estimates-near c t v p =
 high-bounded : (c : Histogram) (t v : ℕ) → high-at c t v ≤ 8190
 high-bounded c t v =
     ⊎-elim
-    (λ e. omega (arith, high-sound c t v e, most-is-total (live-buckets t v (buckets c)), total-live t v (buckets c), tested-from c e .sum))
+    (λ e. omega (arith, high-sound c t v e, most-is-total (live-buckets t v (buckets c)), total-live t v (buckets c), parts-from c e .sum))
     (λ e. let h : high-at c t v ≡ 0 = cond-false (sound c) _ _ e in omega arith)
     (cases-bool (sound c))
 
@@ -215,26 +92,20 @@ keeps = record {
 }
 
 -- levels without a bucket
-none : Level
-none = record { number = 0; stamps = replicate 7 0 }
-
-none-placed : (n : ℕ) → All Places (replicate n none)
-unfolding none
+none-placed : (n : ℕ) → All Places (replicate n empty-level)
 none-placed zero = tt
 none-placed (suc n) = ((refl, omega arith), none-placed n)
 
-none-fills : (m k n : ℕ) → filled m k (replicate n none) ≡ true
-unfolding none
+none-fills : (m k n : ℕ) → filled m k (replicate n empty-level) ≡ true
 none-fills m k zero = refl
-none-fills m k (suc n) = and-from (may-follow m k 0) (filled m 0 (replicate n none)) (and-from (leb 0 (m + 1)) true (le-leb 0 (m + 1) (omega arith)) refl) (none-fills m 0 n)
+none-fills m k (suc n) = and-from (may-follow m k 0) (filled m 0 (replicate n empty-level)) (and-from (leb 0 (m + 1)) true (le-leb 0 (m + 1) (omega arith)) refl) (none-fills m 0 n)
 
 -- a new histogram stands for the empty list
-pub new-stands : (w m : ℕ) → 1 ≤ w → w ≤ 4294967295 → 1 ≤ m → m ≤ 6 → stands-for (record { window = w; fineness = m; last = 0; taken = 0; levels = replicate 12 (record { number = 0; stamps = replicate 7 0 }) }) [] ≡ true
-unfolding none
+pub new-stands : (w m : ℕ) → 1 ≤ w → w ≤ 4294967295 → 1 ≤ m → m ≤ 6 → stands-for (record { window = w; fineness = m; last = 0; taken = 0; levels = replicate 12 empty-level }) [] ≡ true
 new-stands w m a b d e =
-    let c : Histogram = record { window = w; fineness = m; last = 0; taken = 0; levels = replicate 12 none } in
-    let s : Tested c = record { ranges = ranges-to w m a b d e; levels = refl; places = none-placed 12; fills = none-fills m m 12; falls = refl; sum = omega arith } in
-    standing-to c [] (record { fit = tested-to c s; many = refl; ascends = refl; ends = refl; cuts = refl })
+    let c : Histogram = record { window = w; fineness = m; last = 0; taken = 0; levels = replicate 12 empty-level } in
+    let s : Parts c = record { ranges = ranges-to w m a b d e; levels = refl; places = none-placed 12; fills = none-fills m m 12; falls = refl; sum = omega arith } in
+    standing-to c [] (record { fit = parts-to c s; many = refl; ascends = refl; ends = refl; cuts = refl })
 
 pub stands-sound : (c : Histogram) (xs : List ℕ) → stands-for c xs ≡ true → Sound c
 stands-sound c xs e = sound-decided c .0 (standing-from c xs e .fit)
@@ -254,7 +125,7 @@ pub record Moves (c d : Histogram) (t : ℕ) : Type 0 where
 
 stays-sound : (c d : Histogram) (t : ℕ) → c .last ≤ t → high-at c t (c .window) < 4095 → Moves c d t → sound c ≡ true → Sound d
 stays-sound c d t after room k e =
-    let s = tested-from c e in
+    let s = parts-from c e in
     let r = ranges-from (c .window) (c .fineness) (s .ranges) in
     let n = k .levels e in
     let live : List Bucket = live-buckets t (c .window) (buckets c) in
@@ -273,6 +144,15 @@ stays-sound c d t after room k e =
       sound-buckets = same;
     }
 
+-- all that an arrival leaves is live, and holds one arrival more
+one-more-live : (c d : Histogram) (t : ℕ) → Moves c d t → sound c ≡ true → Sound d → high-at d t (c .window) ≡ high-at c t (c .window) + 1
+one-more-live c d t k e s =
+    let w : ℕ = c .window in
+    let live : List Bucket = live-buckets t w (buckets c) in
+    let all = live-settle t w (c .fineness) (buckets c) (ranges-from w (c .fineness) (parts-from c e .ranges) .some-window) in
+    high-sound d t w (sound-decided d .1 s) ∙ ap (λ z. most (live-buckets t w z)) (k .levels e .2) ∙ ap most all ∙ most-is-total (after-arrival (c .fineness) w t (buckets c))
+    ∙ omega (arith, total-settle (c .fineness) 1 (bucket 1 t) live, live-sum c t w e)
+
 pub arrives : (c d : Histogram) (t : ℕ) → c .last ≤ t → high-at c t (c .window) < 4095 → Moves c d t → Arrives c d t
 arrives c d t after room k =
     let test : Sound c → sound c ≡ true = sound-decided c .1 in
@@ -282,9 +162,10 @@ arrives c d t after room k =
       last = k .last;
       taken = k .taken;
       stays-sound = λ s. stays-sound c d t after room k (test s);
-      by-the-rule = λ s. let h = tested-from c (test s) in
+      by-the-rule = λ s. let h = parts-from c (test s) in
           subst (Taken (c .fineness) (c .window) t (buckets c)) (sym (k .levels (test s) .2)) (arrival-by-the-rule (c .fineness) (c .window) t (c .last) (buckets c) (s .some-fineness) after (h .falls) (shaped c h));
       buckets-after = λ s. k .levels (test s) .2;
+      one-more-live = λ s. one-more-live c d t k (test s) (stays-sound c d t after room k (test s));
       levels-kept = λ not. k .others (⊎-elim (λ e. absurd (not (sound-decided c .0 e))) (λ e. e) (cases-bool (sound c)));
     }
 
@@ -292,7 +173,7 @@ arrives c d t after room k =
 grown : (c d : Histogram) (t : ℕ) → c .last ≤ t → Arrives c d t → (xs : List ℕ) → stands-for c xs ≡ true → stands-for d (xs ++ (t ∷ [])) ≡ true
 grown c d t after k xs st =
     let s = standing-from c xs st in
-    let h = tested-from c (s .fit) in
+    let h = parts-from c (s .fit) in
     let is-sound = sound-decided c .0 (s .fit) in
     let live : List Bucket = live-buckets t (c .window) (buckets c) in
     let left = cut-live t (c .last) (c .window) 0 after (c .last) (buckets c) (reverse xs) (omega arith) (h .falls) (newest-first c xs s) (s .cuts) in

@@ -7,4 +7,5 @@ pub mod Trimming
 pub mod Carrying
 pub mod Reading
 pub mod Passing
+pub mod Soundness
 pub mod Laws

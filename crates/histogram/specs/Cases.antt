@@ -10,14 +10,14 @@ after-all m w [] bs = bs
 after-all m w (t ∷ ts) bs = after-all m w ts (after-arrival m w t bs)
 
 -- low and high at t over v in the worked cases
-abbrev pub Counts : (t v low high : ℕ) → Type 0
-Counts t v low high =
+abbrev pub Counted : (t v low high : ℕ) → Type 0
+Counted t v low high =
     let live : List Bucket = live-buckets t v (after-all 1 100 (1 ∷ 2 ∷ 3 ∷ 4 ∷ 5 ∷ 6 ∷ 7 ∷ []) []) in
     (least live ≡ low) × (most live ≡ high)
 
 pub record WorkedCases : Type 0 where
-  pub over-seven : Counts 7 7 4 7
-  pub over-four : Counts 7 4 4 7
-  pub over-three : Counts 7 3 2 3
-  pub newest-alone : Counts 106 100 1 1
-  pub none-live : Counts 107 100 0 0
+  pub over-seven : Counted 7 7 4 7
+  pub over-four : Counted 7 4 4 7
+  pub over-three : Counted 7 3 2 3
+  pub newest-alone : Counted 106 100 1 1
+  pub none-live : Counted 107 100 0 0

@@ -4,7 +4,7 @@ use mathlib.Core.Bool.{Bool, true, false, _&&_, _||_, cond}
 use mathlib.Core.List.{List, [], _∷_, _++_, map, reverse}
 use Prim.Native.Nat.{ℕ, _+_, _*_, _≤_}
 use lib.Dec.{leb, eqb}
-use lib.ListN.{length, take, drop, getD}
+use lib.ListN.{length, take, drop, getD, replicate}
 use Rattle.std.specs.shelf.Lists.{All}
 use Rattle.std.specs.declared.option.Option.{Option}
 use Rattle.std.specs.declared.option.Option.the-variants.{Some, None}
@@ -38,6 +38,10 @@ buckets c = buckets-from 1 (c .levels)
 -- a level has seven places, and no more of them are in use
 abbrev pub Places : Level → Type 0
 Places l = (length (l .stamps) ≡ 7) × (l .number ≤ 7)
+
+-- a level with no bucket
+abbrev pub empty-level : Level
+empty-level = record { number = 0; stamps = replicate 7 0 }
 
 -- what is left of a level where stamps never rise, once the buckets dead at t over v are dropped: the live ones
 abbrev pub Trimmed : ℕ → ℕ → Level → Level → Type 0
@@ -124,6 +128,18 @@ abbrev pub Reads : Histogram → ℕ → ℕ → Option (ℕ × ℕ) → Type 0
 Reads c t v None = sound c ≡ false
 Reads c t v (Some pair) = (sound c ≡ true) × (pair .0 ≡ low-at c t v) × (pair .1 ≡ high-at c t v)
 
+-- what a count at t over v gives: low and high of a sound histogram's live buckets, 0 and 0 of any other
+pub record Counts (c : Histogram) (t v : ℕ) (pair : ℕ × ℕ) : Type 0 where
+  pub low : Sound c → pair .0 ≡ least (live-buckets t v (buckets c))
+  pub high : Sound c → pair .1 ≡ most (live-buckets t v (buckets c))
+  pub low-of-unsound : (Sound c → ⊥) → pair .0 ≡ 0
+  pub high-of-unsound : (Sound c → ⊥) → pair .1 ≡ 0
+
+-- what a count gives where it is not refused
+abbrev pub Gives : Histogram → ℕ → ℕ → Result (ℕ × ℕ) CounterFault → Type 0
+Gives c t v (Ok pair) = Counts c t v pair
+Gives c t v (Err f) = Unit {0}
+
 -- d is c once stamp t has arrived
 pub record Arrives (c d : Histogram) (t : ℕ) : Type 0 where
   pub window : d .window ≡ c .window
@@ -134,6 +150,8 @@ pub record Arrives (c d : Histogram) (t : ℕ) : Type 0 where
   pub stays-sound : Sound c → Sound d
   pub by-the-rule : Sound c → Taken (c .fineness) (c .window) t (buckets c) (buckets d)
   pub buckets-after : Sound c → buckets d ≡ after-arrival (c .fineness) (c .window) t (buckets c)
+  -- one arrival more is live over the window, at most
+  pub one-more-live : Sound c → high-at d t (c .window) ≡ high-at c t (c .window) + 1
   -- one that is not sound keeps its levels
   pub levels-kept : (Sound c → ⊥) → d .levels ≡ c .levels
 

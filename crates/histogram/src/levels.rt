@@ -92,7 +92,7 @@ impl Level {
 }
 
 // Drops the buckets dead at t over v.
-pub fn drop_dead(levels: &mut [Level; 12], t: u32, v: u32)
+pub(crate) fn drop_dead(levels: &mut [Level; 12], t: u32, v: u32)
     requires places { ⌜ All Places (now levels) ⌝ }
     ensures places { λ _. ⌜ All Places (now (levels .exit)) ⌝ }
     ensures fewer { λ _. ⌜ ((n : ℕ) → All (λ (l : OneLevel). l .number ≤ n) (now (levels .entry)) → All (λ (l : OneLevel). l .number ≤ n) (now (levels .exit))) ⌝ }
@@ -104,7 +104,7 @@ pub fn drop_dead(levels: &mut [Level; 12], t: u32, v: u32)
 }
 
 // Puts a bucket of size 1 with stamp t in front; of a size that then has too many the two oldest go on as one of double size.
-pub fn carry_in(levels: &mut [Level; 12], fineness: u8, t: u32)
+pub(crate) fn carry_in(levels: &mut [Level; 12], fineness: u8, t: u32)
     requires some { ⌜ 0 < fineness ⌝ }
     requires fine { ⌜ fineness ≤ 6 ⌝ }
     requires places { ⌜ All Places (now levels) ⌝ }

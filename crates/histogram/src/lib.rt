@@ -1,15 +1,18 @@
 // The exponential histogram: buckets of arrivals, each with a size and the stamp of its newest arrival.
 ghost use mathlib.Core.Path.{_≡_};
-ghost use Prim.Native.Nat.{_≤_, _<_};
+ghost use mathlib.Core.Bool.{true};
+ghost use mathlib.Core.List.{List};
+ghost use Prim.Native.Nat.{ℕ, _≤_, _<_};
 ghost use lib.Dec.{leb};
+ghost use lib.ListN.{replicate};
 ghost use Rattle.std.specs.Orderings.{Decides};
 ghost use Rattle.window.specs.Meaning.{Fresh};
-ghost use Rattle.window.specs.Faults.{Took, most-taken};
-ghost use Rattle.histogram.specs.Histograms.{in-range, may-follow, sound, high-at, Sound, Reads, Arrives, Leaves, histogram-model};
+ghost use Rattle.window.specs.Faults.{Counted, Took, most-taken};
+ghost use Rattle.histogram.specs.Histograms.{empty-level, in-range, may-follow, sound, high-at, stands-for, Sound, Reads, Gives, Arrives, Leaves, histogram-model};
 ghost use Rattle.histogram.specs.Cases.{WorkedCases};
 
 pub mod levels;
-pub mod tally;
+mod tally;
 
 use levels::Level;
 use levels::carry_in;
@@ -58,6 +61,7 @@ impl Histogram {
     pub fn is_sound(&self) -> bool
         ensures test { λ r. ⌜ r ≡ sound (now (self .entry)) ⌝ }
         ensures decides { λ r. ⌜ Decides r (Sound (now (self .entry))) ⌝ }
+        ensures stands { λ r. ⌜ ((xs : List ℕ) → stands-for (now (self .entry)) xs ≡ true → r ≡ true) ⌝ }
     {
         self.read(0, 0).is_some()
     }
@@ -117,6 +121,7 @@ pub impl Counter for Histogram as HistogramCounter {
     fn make(window: u32, fineness: u8) -> Histogram
         ensures fresh { λ r. ⌜ Fresh histogram-model window fineness r ⌝ }
         ensures sound { λ r. ⌜ Sound r ⌝ }
+        ensures empty { λ r. ⌜ r .levels ≡ replicate 12 empty-level ⌝ }
     {
         Histogram {
             window: window.max(1),
@@ -150,7 +155,10 @@ pub impl Counter for Histogram as HistogramCounter {
         self.taken
     }
 
-    fn count(&self, t: u32, v: u32) -> Result<(u32, u32), CounterFault> {
+    fn count(&self, t: u32, v: u32) -> Result<(u32, u32), CounterFault>
+        ensures counted { λ r. ⌜ Counted histogram-model (now (self .entry)) t v r ⌝ }
+        ensures gives { λ r. ⌜ Gives (now (self .entry)) t v r ⌝ }
+    {
         permit(self.last, self.window, t, v)?;
         Ok(self.read(t, v).unwrap_or((0, 0)))
     }

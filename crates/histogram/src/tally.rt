@@ -11,11 +11,11 @@ use window::stamps::is_live;
 
 // Of the buckets read so far: the oldest stamp, the sum of sizes, and low and high.
 #[derive(Clone, Copy)]
-pub struct Tally {
-    pub top: u32,
-    pub sum: u32,
-    pub low: u32,
-    pub high: u32,
+pub(crate) struct Tally {
+    pub(crate) top: u32,
+    pub(crate) sum: u32,
+    pub(crate) low: u32,
+    pub(crate) high: u32,
 }
 
 impl Tally {
@@ -50,7 +50,7 @@ impl Tally {
     }
 
     // The tally with the buckets of one size more, None where a stamp rises.
-    pub fn read(self, stamps: &[u32], size: u32, t: u32, v: u32) -> Option<Tally>
+    pub(crate) fn read(self, stamps: &[u32], size: u32, t: u32, v: u32) -> Option<Tally>
         requires some { ⌜ 0 < size ⌝ }
         requires few { ⌜ length (now stamps) ≤ 7 ⌝ }
         requires high { ⌜ self .high ≤ self .sum ⌝ }

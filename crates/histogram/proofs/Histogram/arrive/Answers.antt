@@ -7,18 +7,19 @@ use Rattle.histogram.specs.declared.Histogram.{Histogram}
 use Rattle.histogram.specs.Buckets.{bucket, total, live-buckets, settle}
 use Rattle.histogram.specs.Histograms.{sound, buckets, buckets-from}
 use Rattle.histogram.proofs.Filling.{levels-few}
-use Rattle.histogram.proofs.Laws.{Moves, arrives, tested-from, ranges-from, live-sum}
+use Rattle.histogram.proofs.Soundness.{parts-from, ranges-from}
+use Rattle.histogram.proofs.Laws.{Moves, arrives, live-sum}
 use Rattle.histogram.proofs.Histogram.arrive.Needs as need
 use Rattle.histogram.proofs.Histogram.arrive.Needs.{then-is-sound, else-is-sound}
 
 pub drop-dead-requires : need.drop-dead-requires
-drop-dead-requires c κs = record { places = tested-from (c .args .self .now) (sym (c .pre .known) ∙ c .if-is-sound .taken) .places }
+drop-dead-requires c κs = record { places = parts-from (c .args .self .now) (sym (c .pre .known) ∙ c .if-is-sound .taken) .places }
 
 pub carry-in-requires : need.carry-in-requires
 carry-in-requires c κs =
     let held = c .args .self .now in
     let fit = sym (c .pre .known) ∙ c .if-is-sound .taken in
-    let s = tested-from held fit in
+    let s = parts-from held fit in
     let r = ranges-from (held .window) (held .fineness) (s .ranges) in
     let live = c .drop-dead .ensures .live 1 (held .last) (c .pre .in-time) (s .falls) in
     record {
@@ -38,7 +39,7 @@ returns c =
     let moves : Moves before (after now) t = elim (c .if-is-sound .came) [
       | then-is-sound w ↦
           let fit : sound before ≡ true = sym (c .pre .known) ∙ w .if-is-sound .taken in
-          let live = w .drop-dead .ensures .live 1 (before .last) (c .pre .in-time) (tested-from before fit .falls) in
+          let live = w .drop-dead .ensures .live 1 (before .last) (c .pre .in-time) (parts-from before fit .falls) in
           subst (λ z. Moves before (after z) t) (sym (w .self-is)) (record {
             window = refl;
             fineness = refl;

@@ -12,7 +12,7 @@ use Rattle.histogram.specs.Buckets.{bucket}
 use Rattle.histogram.specs.Readings.{GoesOn}
 use Rattle.histogram.specs.Histograms.{may-follow}
 use Rattle.histogram.proofs.Passing.{pass-more, pass-rises, pass-misfits, pass-all, follows-placed}
-use Rattle.histogram.proofs.Laws.{ranges-from, unsound-ranges, unsound-fills, unsound-falls, unsound-sum, pass-reads}
+use Rattle.histogram.proofs.Soundness.{ranges-from, unsound-ranges, unsound-fills, unsound-falls, unsound-sum, pass-reads}
 use Rattle.histogram.proofs.Histogram.read.Needs as need
 
 pub returns-then-not-in-range : need.returns-then-not-in-range

@@ -4,7 +4,8 @@ use Rattle.window.specs.Faults.{turn-causes, room-causes}
 use Rattle.window.proofs.Refusals.{admitted-then}
 use Rattle.window.proofs.Estimates.{in-turn}
 use Rattle.histogram.specs.Histograms.{high-at}
-use Rattle.histogram.proofs.Laws.{arrived, reads-pair}
+use Rattle.histogram.proofs.Soundness.{reads-pair}
+use Rattle.histogram.proofs.Laws.{arrived}
 use Rattle.histogram.proofs.HistogramCounter.take.Needs as need
 
 pub returns : need.returns
