@@ -20,7 +20,7 @@ use Rattle.histogram.specs.declared.levels.Level.{Level}
 use Rattle.histogram.specs.declared.Histogram.{Histogram}
 use Rattle.histogram.specs.Buckets.{Bucket, bucket, total, live-buckets, most, after-arrival}
 use Rattle.histogram.specs.Rules.{SoundBuckets, Taken}
-use Rattle.histogram.specs.Histograms.{empty-level, buckets, Places, Sound, may-follow, filled, sound, low-at, high-at, cut, stands-for, histogram-model, Arrives}
+use Rattle.histogram.specs.Histograms.{empty-level, new-histogram, buckets, Places, Sound, may-follow, filled, sound, low-at, high-at, cut, stands-for, histogram-model, Arrives}
 use Rattle.histogram.proofs.Sizes.{settle-ahead, total-settle, most-is-total, near}
 use Rattle.histogram.proofs.Cuts.{falling-raise, falling-live, shaped-live, total-live, live-settle, falling-settle, high-bounds, low-bounds, cut-live, cut-push, cut-settle}
 use Rattle.histogram.proofs.Merging.{sound-buckets, arrival-by-the-rule}
@@ -35,7 +35,6 @@ record Standing (c : Histogram) (xs : List ℕ) : Type 0 where
   cuts : cut (c .last) (c .window) (buckets c) (reverse xs) ≡ true
 
 standing-from : (c : Histogram) (xs : List ℕ) → stands-for c xs ≡ true → Standing c xs
-unfolding stands-for
 standing-from c xs e =
     let a = and-parts _ _ e in
     let b = and-parts _ _ (a .1) in
@@ -44,7 +43,6 @@ standing-from c xs e =
     record { fit = a .0; many = eqb-true _ _ (b .0); ascends = d .0; ends = eqb-true _ _ (f .0); cuts = f .1 }
 
 standing-to : (c : Histogram) (xs : List ℕ) → Standing c xs → stands-for c xs ≡ true
-unfolding stands-for
 standing-to c xs s =
     and-from _ _ (s .fit) (and-from _ _ (eq-eqb _ _ (s .many)) (and-from _ _ (s .ascends) (and-from _ _ (eq-eqb _ _ (s .ends)) (s .cuts))))
 
@@ -101,9 +99,9 @@ none-fills m k zero = refl
 none-fills m k (suc n) = and-from (may-follow m k 0) (filled m 0 (replicate n empty-level)) (and-from (leb 0 (m + 1)) true (le-leb 0 (m + 1) (omega arith)) refl) (none-fills m 0 n)
 
 -- a new histogram stands for the empty list
-pub new-stands : (w m : ℕ) → 1 ≤ w → w ≤ 4294967295 → 1 ≤ m → m ≤ 6 → stands-for (record { window = w; fineness = m; last = 0; taken = 0; levels = replicate 12 empty-level }) [] ≡ true
+pub new-stands : (w m : ℕ) → 1 ≤ w → w ≤ 4294967295 → 1 ≤ m → m ≤ 6 → stands-for (new-histogram w m) [] ≡ true
 new-stands w m a b d e =
-    let c : Histogram = record { window = w; fineness = m; last = 0; taken = 0; levels = replicate 12 empty-level } in
+    let c : Histogram = new-histogram w m in
     let s : Parts c = record { ranges = ranges-to w m a b d e; levels = refl; places = none-placed 12; fills = none-fills m m 12; falls = refl; sum = omega arith } in
     standing-to c [] (record { fit = parts-to c s; many = refl; ascends = refl; ends = refl; cuts = refl })
 

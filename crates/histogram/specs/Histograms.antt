@@ -43,6 +43,10 @@ Places l = (length (l .stamps) ≡ 7) × (l .number ≤ 7)
 abbrev pub empty-level : Level
 empty-level = record { number = 0; stamps = replicate 7 0 }
 
+-- a new histogram of window w and fineness m
+abbrev pub new-histogram : ℕ → ℕ → Histogram
+new-histogram w m = record { window = w; fineness = m; last = 0; taken = 0; levels = replicate 12 empty-level }
+
 -- what is left of a level where stamps never rise, once the buckets dead at t over v are dropped: the live ones
 abbrev pub Trimmed : ℕ → ℕ → Level → Level → Type 0
 Trimmed t v before after = (s top : ℕ) → top ≤ t → falling top (level-buckets s before) ≡ true → level-buckets s after ≡ live-buckets t v (level-buckets s before)
@@ -105,7 +109,7 @@ cut t w [] ys = eqb (live-count t w ys) 0
 cut t w (b ∷ bs) ys = begins (b .stamp) ys && (leb (b .size) (length ys) && cut t w bs (drop (b .size) ys))
 
 -- whether a histogram stands for an arrival list
-unfoldable pub stands-for : Histogram → List ℕ → Bool
+abbrev pub stands-for : Histogram → List ℕ → Bool
 stands-for c xs =
     sound c
     && (eqb (length xs) (c .taken) && (ascending xs && (eqb (newest-stamp xs) (c .last) && cut (c .last) (c .window) (buckets c) (reverse xs))))

@@ -51,7 +51,7 @@ impl Level {
     // The stamp of what the two oldest of a full level become when one more comes in front: the newer one's.
     fn merged_stamp(&self, fineness: u8) -> u32
         requires some { ⌜ 0 < fineness ⌝ }
-        requires places { ⌜ fineness ≤ 7 ⌝ }
+        requires fine { ⌜ fineness ≤ 6 ⌝ }
         ensures newer { λ r. ⌜ r ≡ getD (now (self .entry) .stamps) (fineness - 1) 0 ⌝ }
     {
         self.stamps[fineness as usize - 1]

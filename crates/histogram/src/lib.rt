@@ -2,13 +2,12 @@
 ghost use mathlib.Core.Path.{_≡_};
 ghost use mathlib.Core.Bool.{true};
 ghost use mathlib.Core.List.{List};
-ghost use Prim.Native.Nat.{ℕ, _≤_, _<_};
+ghost use Prim.Native.Nat.{ℕ, _≤_, _<_, min, max};
 ghost use lib.Dec.{leb};
-ghost use lib.ListN.{replicate};
 ghost use Rattle.std.specs.Orderings.{Decides};
 ghost use Rattle.window.specs.Meaning.{Fresh};
 ghost use Rattle.window.specs.Faults.{Counted, Took, most-taken};
-ghost use Rattle.histogram.specs.Histograms.{empty-level, in-range, may-follow, sound, high-at, stands-for, Sound, Reads, Gives, Arrives, Leaves, histogram-model};
+ghost use Rattle.histogram.specs.Histograms.{new-histogram, in-range, may-follow, sound, high-at, stands-for, Sound, Reads, Gives, Arrives, Leaves, histogram-model};
 ghost use Rattle.histogram.specs.Cases.{WorkedCases};
 
 pub mod levels;
@@ -57,6 +56,22 @@ fn may_hold(sum: u32) -> bool
 }
 
 impl Histogram {
+    // A histogram with no bucket, the window and the fineness brought into their ranges.
+    fn new(window: u32, fineness: u8) -> Histogram
+        ensures made { λ r. ⌜ r ≡ new-histogram (max window 1) (max (min fineness 6) 1) ⌝ }
+    {
+        Histogram {
+            window: window.max(1),
+            fineness: fineness.min(6).max(1),
+            last: 0,
+            taken: 0,
+            levels: [Level {
+                number: 0,
+                stamps: [0; 7],
+            }; 12],
+        }
+    }
+
     // Whether the histogram is sound.
     pub fn is_sound(&self) -> bool
         ensures test { λ r. ⌜ r ≡ sound (now (self .entry)) ⌝ }
@@ -121,18 +136,9 @@ pub impl Counter for Histogram as HistogramCounter {
     fn make(window: u32, fineness: u8) -> Histogram
         ensures fresh { λ r. ⌜ Fresh histogram-model window fineness r ⌝ }
         ensures sound { λ r. ⌜ Sound r ⌝ }
-        ensures empty { λ r. ⌜ r .levels ≡ replicate 12 empty-level ⌝ }
+        ensures made { λ r. ⌜ r ≡ new-histogram (max window 1) (max (min fineness 6) 1) ⌝ }
     {
-        Histogram {
-            window: window.max(1),
-            fineness: fineness.min(6).max(1),
-            last: 0,
-            taken: 0,
-            levels: [Level {
-                number: 0,
-                stamps: [0; 7],
-            }; 12],
-        }
+        Histogram::new(window, fineness)
     }
 
     fn window(&self) -> u32 {

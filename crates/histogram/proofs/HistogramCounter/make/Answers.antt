@@ -1,17 +1,26 @@
-use mathlib.Core.Path.{_≡_, refl}
+use mathlib.Core.Path.{_≡_, sym, ap, subst, _∙_}
 use mathlib.Core.Bool.{true}
-use mathlib.Core.List.{List, []}
+use mathlib.Core.List.{[]}
+use Prim.Native.Nat.{min, max}
 use native.Mathlib.Omega.{arith}
-use lib.ListN.{replicate}
-use Rattle.histogram.specs.declared.levels.Level.{Level}
-use Rattle.histogram.specs.declared.Histogram.{Histogram}
-use Rattle.histogram.specs.Histograms.{empty-level, stands-for}
+use Rattle.histogram.specs.Histograms.{new-histogram, stands-for}
 use Rattle.histogram.proofs.Laws.{new-stands, stands-sound}
 use Rattle.histogram.proofs.HistogramCounter.make.Needs as need
 
 pub returns : need.returns
 returns c =
-    let none : List Level = replicate 12 empty-level in
-    let made : Histogram = record { window = c .max .result; fineness = c .max-2 .result; last = 0; taken = 0; levels = none } in
-    let stands : stands-for made [] ≡ true = new-stands (c .max .result) (c .max-2 .result) (omega arith) (omega arith) (omega arith) (omega arith) in
-    record { fresh = record { window = omega arith; fineness = omega arith; stands-for-empty = stands; last = refl; taken = refl }; sound = stands-sound made [] stands; empty = refl }
+    let w = max (c .args .window) 1 in
+    let m = max (min (c .args .fineness) 6) 1 in
+    let made : c .new .result ≡ new-histogram w m = c .new .ensures .made in
+    let stands : stands-for (c .new .result) [] ≡ true = ap (λ z. stands-for z []) made ∙ new-stands w m (omega arith) (omega arith) (omega arith) (omega arith) in
+    record {
+      fresh = record {
+        window = ap (λ z. z .window) made ∙ omega arith;
+        fineness = ap (λ z. z .fineness) made ∙ omega arith;
+        stands-for-empty = stands;
+        last = ap (λ z. z .last) made;
+        taken = ap (λ z. z .taken) made;
+      };
+      sound = stands-sound (c .new .result) [] stands;
+      made = made;
+    }
