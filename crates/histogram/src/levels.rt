@@ -29,6 +29,15 @@ impl Level {
         !is_live(self.stamps[self.number as usize - 1], t, v)
     }
 
+    // Drops the oldest bucket.
+    fn drop_oldest(&mut self)
+        requires some { ⌜ 0 < now self .number ⌝ }
+        ensures fewer { λ _. ⌜ now (self .exit) .number ≡ now (self .entry) .number - 1 ⌝ }
+        ensures stamps { λ _. ⌜ now (self .exit) .stamps ≡ now (self .entry) .stamps ⌝ }
+    {
+        self.number -= 1;
+    }
+
     // Drops the buckets dead at t over v: the oldest ones, as stamps never rise.
     fn trim(&mut self, t: u32, v: u32)
         requires places { ⌜ now self .number ≤ 7 ⌝ }
@@ -37,7 +46,7 @@ impl Level {
         ensures trimmed { λ _. ⌜ Trimmed t v (now (self .entry)) (now (self .exit)) ⌝ }
     {
         while self.number > 0 && self.oldest_is_dead(t, v) {
-            self.number -= 1;
+            self.drop_oldest();
         }
     }
 

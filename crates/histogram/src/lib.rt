@@ -7,7 +7,7 @@ ghost use lib.Dec.{leb};
 ghost use Rattle.std.specs.Orderings.{Decides};
 ghost use Rattle.window.specs.Meaning.{Fresh};
 ghost use Rattle.window.specs.Faults.{Counted, Took, most-taken};
-ghost use Rattle.histogram.specs.Histograms.{new-histogram, in-range, may-follow, sound, high-at, stands-for, Sound, Reads, Gives, Arrives, Leaves, histogram-model};
+ghost use Rattle.histogram.specs.Histograms.{new-histogram, in-range, may-follow, sound, low-at, high-at, stands-for, Sound, Reads, Gives, Arrives, Leaves, histogram-model};
 ghost use Rattle.histogram.specs.Cases.{WorkedCases};
 
 pub mod levels;
@@ -113,6 +113,17 @@ impl Histogram {
         Some((tally.low, tally.high))
     }
 
+    // Low and high at t over v, 0 and 0 of a histogram that is not sound.
+    fn estimate(&self, t: u32, v: u32) -> (u32, u32)
+        ensures low { λ r. ⌜ r .0 ≡ low-at (now (self .entry)) t v ⌝ }
+        ensures high { λ r. ⌜ r .1 ≡ high-at (now (self .entry)) t v ⌝ }
+    {
+        match self.read(t, v) {
+            Some(pair) => pair,
+            None => (0, 0),
+        }
+    }
+
     // Stamp t arrives; a histogram that is not sound keeps its levels.
     fn arrive(&mut self, is_sound: bool, t: u32)
         requires known { ⌜ «is_sound» ≡ sound (now self) ⌝ }
@@ -166,7 +177,7 @@ pub impl Counter for Histogram as HistogramCounter {
         ensures gives { λ r. ⌜ Gives (now (self .entry)) t v r ⌝ }
     {
         permit(self.last, self.window, t, v)?;
-        Ok(self.read(t, v).unwrap_or((0, 0)))
+        Ok(self.estimate(t, v))
     }
 
     fn take(&mut self, t: u32) -> Result<(), CounterFault>

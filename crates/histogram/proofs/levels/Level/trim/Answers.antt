@@ -1,4 +1,4 @@
-use mathlib.Core.Path.{_≡_, sym, ap, _∙_}
+use mathlib.Core.Path.{_≡_, sym, ap, subst, _∙_}
 use mathlib.Core.Bool.{true, false}
 use Prim.Native.Nat.{_-_}
 use native.Mathlib.Omega.{arith}
@@ -6,18 +6,18 @@ use borrow.Author.Needs.{needs}
 use lib.ListN.{length, getD}
 use Rattle.std.proofs.shelf.Tests.{not-true, not-false}
 use Rattle.window.specs.Stamps.{is-live}
-use Rattle.histogram.proofs.Trimming.{trimming-less, trimmed}
+use Rattle.histogram.proofs.Trimming.{Trimming, trimming-less, trimmed}
 use Rattle.histogram.proofs.levels.Level.trim.Needs as need
 
 pub loop-self-again : need.loop-self-again
 loop-self-again c =
     let places : length (c .args .self .now .stamps) ≡ 7 = search needs in
+    let before = c .args .self .now in
     let now = c .loop-self .self in
-    let dead : is-live (c .args .t) (c .args .v) (getD (now .stamps) (now .number - 1) 0) ≡ false = not-true _ (sym (c .if-oldest-is-dead .ensures tt .dead)) in (
-      trimming-less (c .args .t) (c .args .v) (c .args .self .now .stamps) (c .args .self .now .number) (now .number) (c .loop-self .inv .0) (c .loop-self-test .taken) (omega (arith, c .loop-self .inv .0 .fewer))
-          (ap (λ z. is-live (c .args .t) (c .args .v) (getD z (now .number - 1) 0)) (sym (c .loop-self .inv .1)) ∙ dead),
-      c .loop-self .inv .1,
-    )
+    let dead : is-live (c .args .t) (c .args .v) (getD (now .stamps) (now .number - 1) 0) ≡ false = not-true _ (sym (c .if-oldest-is-dead .ensures tt .dead)) in
+    let less = trimming-less (c .args .t) (c .args .v) (before .stamps) (before .number) (now .number) (c .loop-self .inv .0) (c .loop-self-test .taken) (omega (arith, c .loop-self .inv .0 .fewer))
+    (ap (λ z. is-live (c .args .t) (c .args .v) (getD z (now .number - 1) 0)) (sym (c .loop-self .inv .1)) ∙ dead) in
+    (subst (Trimming (c .args .t) (c .args .v) (before .stamps) (before .number)) (sym (c .drop-oldest .ensures .fewer)) less, c .drop-oldest .ensures .stamps ∙ c .loop-self .inv .1)
 
 pub returns-else-oldest-is-dead : need.returns-else-oldest-is-dead
 returns-else-oldest-is-dead c =
