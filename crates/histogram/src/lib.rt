@@ -33,7 +33,7 @@ pub struct Histogram {
     pub levels: [Level; 12],
 }
 
-// Whether a window and a fineness are in their ranges.
+// Whether a window and a fineness are in their ranges; no number of 32 bits is above the largest window.
 fn in_range(window: u32, fineness: u8) -> bool
     ensures ranges { λ r. ⌜ r ≡ in-range window fineness ⌝ }
 {
