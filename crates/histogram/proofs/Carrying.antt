@@ -7,7 +7,7 @@ use native.Mathlib.Numerals.{add-one}
 use lib.ListN.{length, take, drop, getD, set}
 use Rattle.std.specs.shelf.Lists.{All}
 use Rattle.std.specs.declared.option.Option.the-variants.{Some, None}
-use Rattle.std.proofs.shelf.Lists.{append-nil, append-assoc, drop-more, drop-all, drop-drop, drop-set-lt, length-set, length-take-le, take-more-set, take-append-drop, set-split, getD-drop}
+use Rattle.std.proofs.shelf.Lists.{append-nil, append-assoc, drop-more, drop-drop, drop-set-lt, length-set, length-take-le, take-more-set, set-split, getD-drop}
 use Rattle.std.proofs.shelf.Elements.{all-set, all-getD}
 use Rattle.histogram.specs.declared.levels.Level.{Level}
 use Rattle.histogram.specs.Buckets.{Bucket, bucket, total, settle}
@@ -81,9 +81,6 @@ pub record Carried (m t : ℕ) (start now : List Level) (j a : ℕ) : Type 0 whe
   pub places : All Places now
   pub same : settle m 1 (bucket 1 t) (buckets-from 1 start) ≡ buckets-from 1 (take j now) ++ settle m 1 (bucket (2 ^ j) a) (buckets-from (2 ^ j) (drop j start))
   pub sum : total (buckets-from (2 ^ j) (drop j start)) + 2 * 2 ^ j ≤ total (buckets-from 1 start) + 2
-
-pub carried-none : (m t : ℕ) (start : List Level) → All Places start → Carried m t start start 0 t
-carried-none m t start places = record { rest = refl; long = refl; places = places; same = refl; sum = omega arith }
 
 module _ (m t : ℕ) (start now : List Level) (j a : ℕ) (c : Carried m t start now j a) (inside : j < length start) (d : Level) where
   pub level-same : getD now j d ≡ getD start j d

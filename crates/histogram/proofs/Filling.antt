@@ -1,9 +1,9 @@
 -- Levels as buckets: numbers of buckets that may follow each other are what sound buckets have, and dropping the dead leaves the live.
 use mathlib.Core.Path.{_≡_, refl, sym, ap, subst, _∙_}
-use mathlib.Core.Bool.{true, false, _&&_, _||_, and-assoc}
+use mathlib.Core.Bool.{true, _&&_, _||_, and-assoc}
 use mathlib.Core.List.{List, [], _∷_, _++_, map}
 use mathlib.Core.Logic.{⊎-elim}
-use Prim.Native.Nat.{ℕ, zero, suc, _+_, _*_, _^_, _≤_, _<_, max}
+use Prim.Native.Nat.{ℕ, suc, _+_, _*_, _^_, _≤_, _<_, max}
 use native.Mathlib.Omega.{arith}
 use lib.Dec.{leb, eqb}
 use lib.ListN.{length, take, getD}
@@ -13,12 +13,12 @@ use Rattle.std.proofs.shelf.Elements.{kept-by-append}
 use Rattle.std.proofs.shelf.Tests.{and-parts, and-from, or-cases, or-left, or-right, leb-true, le-leb, eqb-true, eq-eqb, cases-eq}
 use Rattle.window.specs.Stamps.{is-live}
 use Rattle.histogram.specs.declared.levels.Level.{Level}
-use Rattle.histogram.specs.Buckets.{Bucket, bucket, total, falling, live-buckets}
-use Rattle.histogram.specs.Rules.{how-many, largest, Climbing, SoundBuckets}
+use Rattle.histogram.specs.Buckets.{Bucket, bucket, falling, live-buckets}
+use Rattle.histogram.specs.Rules.{how-many, largest, SoundBuckets}
 use Rattle.histogram.specs.Readings.{oldest-stamp}
 use Rattle.histogram.specs.Histograms.{in-use, level-buckets, buckets-from, Places, Trimmed, may-follow, filled}
 use Rattle.histogram.proofs.Sizes.{Shaped, end, more, next}
-use Rattle.histogram.proofs.Cuts.{falls, falling-cons}
+use Rattle.histogram.proofs.Cuts.{falls}
 use Rattle.histogram.proofs.Merging.{many-yes, many-no, many-append, double-power}
 
 pub in-use-length : (l : Level) → Places l → length (in-use l) ≡ l .number

@@ -1,6 +1,6 @@
 -- Histograms keep the rules of a window counter, and an arrival leaves a sound one sound.
 use mathlib.Core.Path.{_≡_, refl, sym, ap, subst, _∙_}
-use mathlib.Core.Bool.{Bool, true, false, cond}
+use mathlib.Core.Bool.{true, false}
 use mathlib.Core.List.{List, [], _∷_, _++_, reverse}
 use mathlib.Core.Logic.{⊎-elim}
 use Prim.Native.Nat.{ℕ, zero, suc, _+_, _-_, _*_, _≤_, _<_}
@@ -16,7 +16,6 @@ use Rattle.window.specs.Meaning.{Keeps, Permitted, Between}
 use Rattle.window.specs.Faults.{Arrived}
 use Rattle.window.proofs.Arrivals.{ascends-push, last-push}
 use Rattle.window.proofs.NewestFirst.{Down, down-reverse, live-reverse}
-use Rattle.histogram.specs.declared.levels.Level.{Level}
 use Rattle.histogram.specs.declared.Histogram.{Histogram}
 use Rattle.histogram.specs.Buckets.{Bucket, bucket, total, live-buckets, most, after-arrival}
 use Rattle.histogram.specs.Rules.{SoundBuckets, Taken}

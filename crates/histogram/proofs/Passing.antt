@@ -1,21 +1,21 @@
 -- One pass over the levels tells whether they are sound, and what they count.
-use mathlib.Core.Path.{_≡_, refl, sym, ap, subst, _∙_}
+use mathlib.Core.Path.{_≡_, sym, ap, subst, _∙_}
 use mathlib.Core.Bool.{true, false, _&&_, _||_}
-use mathlib.Core.List.{List, [], _∷_, _++_, map}
-use Prim.Native.Nat.{ℕ, suc, _+_, _*_, _^_, _≤_, _<_}
+use mathlib.Core.List.{List, _++_, map}
+use Prim.Native.Nat.{ℕ, _+_, _*_, _^_, _≤_, _<_}
 use native.Mathlib.Omega.{arith}
 use lib.Dec.{leb, eqb}
 use lib.ListN.{length, take, drop, getD}
 use Rattle.std.specs.shelf.Lists.{All}
 use Rattle.std.specs.declared.option.Option.the-variants.{Some, None}
-use Rattle.std.proofs.shelf.Lists.{append-assoc, take-more, take-all, take-append-drop, drop-more, drop-all, length-take-le, at-drop-more, at-drop-all}
+use Rattle.std.proofs.shelf.Lists.{take-more, take-all, take-append-drop, length-take-le, at-drop-more, at-drop-all}
 use Rattle.std.proofs.shelf.Elements.{all-more}
 use Rattle.std.proofs.shelf.Tests.{and-parts, and-left, leb-true}
 use Rattle.histogram.specs.declared.levels.Level.{Level}
 use Rattle.histogram.specs.declared.tally.Tally.{Tally}
-use Rattle.histogram.specs.Buckets.{Bucket, bucket, total, falling}
+use Rattle.histogram.specs.Buckets.{bucket, falling}
 use Rattle.histogram.specs.Readings.{oldest-stamp, Tells, GoesOn}
-use Rattle.histogram.specs.Histograms.{in-use, level-buckets, buckets-from, Places, may-follow, filled}
+use Rattle.histogram.specs.Histograms.{in-use, buckets-from, Places, may-follow, filled}
 use Rattle.histogram.proofs.Merging.{double-power}
 use Rattle.histogram.proofs.Filling.{falling-append}
 use Rattle.histogram.proofs.Carrying.{buckets-after, buckets-more}
@@ -28,16 +28,6 @@ pub record Pass (m last t v : ℕ) (ls : List Level) (j : ℕ) (a : Tally) (size
   pub fills : filled m m ls ≡ filled m before (drop j ls)
   pub high : a .high ≤ a .sum
   pub sum : a .sum + 7 ≤ 7 * size
-
-pub pass-none : (m last t v : ℕ) (ls : List Level) → Pass m last t v ls 0 (record { top = last; sum = 0; low = 0; high = 0 }) 1 m
-pass-none m last t v ls = record {
-  tells = record { falls = refl; top = refl; sum = refl; low = refl; high = refl };
-  power = refl;
-  places = tt;
-  fills = refl;
-  high = omega arith;
-  sum = omega arith;
-}
 
 module _ (m last t v : ℕ) (ls : List Level) (j : ℕ) (a : Tally) (size before : ℕ) (p : Pass m last t v ls j a size before) (d : Level) (inside : j < length ls) where
   front-length : length (take j ls) ≡ j

@@ -1,5 +1,5 @@
 -- Stamps that move back by one place, one after the other.
-use mathlib.Core.Path.{_≡_, refl, sym, ap, _∙_}
+use mathlib.Core.Path.{_≡_, sym, ap, _∙_}
 use mathlib.Core.List.{List, [], _∷_, _++_}
 use Prim.Native.Nat.{ℕ, zero, suc, _+_, _-_, _<_}
 use native.Mathlib.Omega.{arith}
@@ -14,9 +14,6 @@ pub record Shifted (t : ℕ) (ys now : List ℕ) (i moved : ℕ) : Type 0 where
   pub next : moved ≡ getD (t ∷ ys) i 0
   pub long : length now ≡ length ys
 
-pub shifted-none : (t : ℕ) (ys : List ℕ) → Shifted t ys ys 0 t
-shifted-none t ys = record { front = refl; rest = refl; next = refl; long = refl }
-
 pub shifted-more : (t : ℕ) (ys now : List ℕ) (i moved : ℕ) → Shifted t ys now i moved → i < length ys → Shifted t ys (set now i moved) (i + 1) (getD now i 0)
 shifted-more t ys now i moved s inside = record {
   front = take-more-set now i moved (omega (arith, s .long)) ∙ ap (λ z. z ++ (moved ∷ [])) (s .front) ∙ ap (λ z. take i (t ∷ ys) ++ (z ∷ [])) (s .next)
@@ -28,9 +25,6 @@ shifted-more t ys now i moved s inside = record {
       ∙ sym (ap (λ z. getD (t ∷ ys) z 0) (add-one i));
   long = length-set now i moved ∙ s .long;
 }
-
-pub shifted-all : (t k : ℕ) (ys now : List ℕ) (moved : ℕ) → Shifted t ys now (k + 1) moved → take (k + 1) now ≡ t ∷ take k ys
-shifted-all t k ys now moved s = s .front ∙ ap (λ z. take z (t ∷ ys)) (add-one k)
 
 -- a full level of m + 1, with one more in front: m stay, and the next one is the newer of the two oldest
 pub full-stamps : (t m n : ℕ) (xs : List ℕ) → 0 < m → n ≡ m + 1 → (t ∷ take (m - 1) xs ≡ take m (t ∷ take n xs)) × (getD xs (m - 1) 0 ≡ getD (t ∷ take n xs) m 0)

@@ -1,6 +1,5 @@
 -- The sizes of sound buckets: an arrival keeps them sound, and low and high are near.
 use mathlib.Core.Path.{_≡_, refl, sym, ap, subst, _∙_}
-use mathlib.Core.Bool.{true, false, cond}
 use mathlib.Core.List.{List, [], _∷_}
 use mathlib.Core.Logic.{⊎-elim}
 use Prim.Native.Nat.{ℕ, _+_, _-_, _*_, _≤_, _<_}
@@ -25,13 +24,6 @@ settle-more m n h b bs e f = cond-true (eqb (b .size) (h .size)) _ _ (eq-eqb _ _
 
 pub settle-next : (m n : ℕ) (h b : Bucket) (bs : List Bucket) → (b .size ≡ h .size → ⊥) → settle m n h (b ∷ bs) ≡ h ∷ (b ∷ bs)
 settle-next m n h b bs e = cond-false (eqb (b .size) (h .size)) _ _ (ne-eqb _ _ e)
-
--- nothing is merged where no size has too many
-pub settle-idle : (m s n : ℕ) (h : Bucket) (bs : List Bucket) → 0 < s → h .size ≡ s → Shaped m s n bs → settle m n h bs ≡ h ∷ bs
-settle-idle m s n h [] pos eh end = refl
-settle-idle m s n h (b ∷ bs) pos eh (more e l r) =
-    settle-more m n h b bs (e ∙ sym eh) (omega arith) ∙ ap (λ ls. h ∷ ls) (settle-idle m s (n + 1) b bs pos e r)
-settle-idle m s n h (b ∷ bs) pos eh (next e l r) = settle-next m n h b bs (λ q. omega arith)
 
 mutual
   -- one bucket more of its size

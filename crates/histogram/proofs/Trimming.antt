@@ -1,11 +1,10 @@
 -- Where stamps never rise, dropping dead ones from the old end leaves the live ones.
 use mathlib.Core.Path.{_≡_, refl, sym, ap, subst, _∙_}
-use mathlib.Core.Bool.{Bool, true, false, cond}
+use mathlib.Core.Bool.{Bool, true, false}
 use mathlib.Core.List.{List, [], _∷_, _++_, map}
 use mathlib.Core.Logic.{_⊎_, ⊎-elim}
 use Prim.Native.Nat.{ℕ, zero, suc, _+_, _-_, _≤_, _<_}
 use native.Mathlib.Omega.{arith}
-use native.Mathlib.Numerals.{add-one}
 use lib.ListN.{length, take, getD, set}
 use Rattle.std.specs.shelf.Lists.{kept-by}
 use Rattle.std.specs.shelf.Lists.{All}
@@ -90,9 +89,6 @@ pub record Dropped (t v : ℕ) (start now : List Level) (i : ℕ) : Type 0 where
   pub rest : (k : ℕ) (d : Level) → i ≤ k → getD now k d ≡ getD start k d
   pub fewer : (k : ℕ) (d : Level) → getD now k d .number ≤ getD start k d .number
   pub stamps : (k : ℕ) (d : Level) → getD now k d .stamps ≡ getD start k d .stamps
-
-pub dropped-none : (t v : ℕ) (start : List Level) → Dropped t v start start 0
-dropped-none t v start = record { long = refl; done = λ k d h. absurd (omega arith); rest = λ k d h. refl; fewer = λ k d. omega arith; stamps = λ k d. refl }
 
 pub dropped-more : (t v : ℕ) (start now : List Level) (i : ℕ) (e l : Level) → Dropped t v start now i → i < length start → l .stamps ≡ getD now i e .stamps → l .number ≤ getD now i e .number → Trimmed t v (getD now i e) l → Dropped t v start (set now i l) (i + 1)
 dropped-more t v start now i e l r inside stamps fewer trimmed =

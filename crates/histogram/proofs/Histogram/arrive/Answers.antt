@@ -1,11 +1,11 @@
 use mathlib.Core.Path.{_≡_, refl, sym, ap, subst, _∙_}
 use mathlib.Core.Bool.{true, false}
-use Prim.Native.Nat.{_+_, _<_}
+use Prim.Native.Nat.{_+_}
 use native.Mathlib.Omega.{arith}
 use Rattle.std.proofs.shelf.Tests.{both-ways}
 use Rattle.histogram.specs.declared.Histogram.{Histogram}
-use Rattle.histogram.specs.Buckets.{bucket, total, live-buckets, settle}
-use Rattle.histogram.specs.Histograms.{sound, buckets, buckets-from}
+use Rattle.histogram.specs.Buckets.{bucket, total, settle}
+use Rattle.histogram.specs.Histograms.{sound}
 use Rattle.histogram.proofs.Filling.{levels-few}
 use Rattle.histogram.proofs.Soundness.{parts-from, ranges-from}
 use Rattle.histogram.proofs.Laws.{Moves, arrives, live-sum}

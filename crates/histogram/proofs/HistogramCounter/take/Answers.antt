@@ -1,4 +1,4 @@
-use mathlib.Core.Path.{_≡_, ap, subst, _∙_}
+use mathlib.Core.Path.{ap, subst, _∙_}
 use Rattle.window.specs.Causes.{Admitted}
 use Rattle.window.specs.Faults.{turn-causes, room-causes}
 use Rattle.window.proofs.Refusals.{admitted-then}

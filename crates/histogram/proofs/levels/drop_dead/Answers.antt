@@ -1,9 +1,5 @@
-use mathlib.Core.Path.{_≡_, ap, _∙_}
 use mathlib.Core.List.{[]}
-use Prim.Native.Nat.{_≤_}
 use native.Mathlib.Omega.{arith}
-use lib.ListN.{length, getD}
-use borrow.Author.Needs.{needs}
 use Rattle.std.proofs.shelf.Elements.{all-getD}
 use Rattle.histogram.specs.declared.levels.Level.{Level}
 use Rattle.histogram.specs.Histograms.{Places}

@@ -2,7 +2,7 @@ use mathlib.Core.Path.{_≡_}
 use native.Mathlib.Omega.{arith}
 use borrow.Author.Needs.{needs}
 use lib.ListN.{length}
-use Rattle.histogram.proofs.Shifting.{shifted-more, shifted-all}
+use Rattle.histogram.proofs.Shifting.{shifted-more}
 use Rattle.histogram.proofs.levels.Level.push.Needs as need
 
 pub loop-i-again : need.loop-i-again

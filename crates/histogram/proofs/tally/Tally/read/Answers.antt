@@ -7,7 +7,7 @@ use lib.Seq.{take-all}
 use Rattle.std.proofs.shelf.Tests.{ltb-true, ltb-false}
 use Rattle.histogram.specs.Buckets.{bucket}
 use Rattle.histogram.specs.Readings.{GoesOn}
-use Rattle.std.specs.declared.option.Option.the-variants.{Some, None}
+use Rattle.std.specs.declared.option.Option.the-variants.{Some}
 use Rattle.histogram.proofs.Reading.{reading-none, reading-more, reading-rises, high-within, size-more}
 use Rattle.histogram.proofs.tally.Tally.read.Needs as need
 
