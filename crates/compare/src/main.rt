@@ -5,6 +5,7 @@ mod lane;
 mod script;
 
 use course::Course;
+use histogram::HistogramCounter;
 use ring::RingCounter;
 use script::Entry;
 use script::Trouble;
@@ -26,6 +27,7 @@ const FINENESS: u8 = 2;
 #[derive(Drop)]
 struct Evening {
     ring: Course<RingCounter>,
+    histogram: Course<HistogramCounter>,
     wave: Course<WaveCounter>,
     begun: bool,
 }
@@ -34,6 +36,7 @@ impl Evening {
     fn new(heap: Global, window: u32, fineness: u8) -> Self {
         Evening {
             ring: Course::new(heap, "ring", window, fineness),
+            histogram: Course::new(heap, "histogram", window, fineness),
             wave: Course::new(heap, "wave", window, fineness),
             begun: false,
         }
@@ -42,6 +45,7 @@ impl Evening {
     fn play<W: Write>(&mut self, out: &mut W, line: u64, t: u32) -> Result<(), AnyError> {
         self.begun = true;
         self.ring.play(out, line, t)?;
+        self.histogram.play(out, line, t)?;
         self.wave.play(out, line, t)
     }
 
@@ -49,12 +53,14 @@ impl Evening {
         self.begun = true;
         writeln!(out, "at {t} over {span}")?;
         self.ring.ask(out, line, t, span)?;
+        self.histogram.ask(out, line, t, span)?;
         self.wave.ask(out, line, t, span)
     }
 
     fn close<W: Write>(&self, out: &mut W) -> Result<(), AnyError> {
         writeln!(out, "the evening")?;
         self.ring.close(out)?;
+        self.histogram.close(out)?;
         self.wave.close(out)
     }
 }

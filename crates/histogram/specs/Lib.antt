@@ -1,0 +1,5 @@
+pub mod Buckets
+pub mod Rules
+pub mod Readings
+pub mod Histograms
+pub mod Cases
