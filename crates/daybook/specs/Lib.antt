@@ -1,0 +1,4 @@
+pub mod Book
+pub mod Boards
+pub mod Promises
+pub mod Runs
