@@ -9,6 +9,9 @@ use borrow.Author.Tests.{eq-eqb, ne-eqb}
 use lib.Dec.{eqb}
 use lib.ListN.{length, getD}
 use Rattle.std.specs.Written.{decimal}
+use Rattle.std.specs.Options.{Cases}
+use Rattle.std.specs.declared.option.Option.{Option}
+use Rattle.std.specs.declared.option.Option.the-variants.{Some, None}
 use Rattle.std.specs.shelf.Lists.{All}
 use Rattle.std.specs.shelf.Text.{sameBytes}
 use Rattle.std.proofs.shelf.Lists.{append-cancel-left}
@@ -26,7 +29,7 @@ use Rattle.logline.specs.Forms.{head, label, letter-of}
 use Rattle.logline.specs.Pieces.{NoBlank}
 use Rattle.logline.specs.Events.{Content, number, serial, letter, content-text, content-shape, Sound, Allowed, Filled, field-text, field-texts}
 
--- two contents of one shape with the same bytes are the same
+-- the word whose first field has these bytes
 word-by : List ℕ → Word
 word-by h = cond (sameBytes h (head Open)) Open (cond (sameBytes h (head Enrol)) Enrol (cond (sameBytes h (head Play)) Play (cond (sameBytes h (head Ask)) Ask (cond (sameBytes h (head Range)) Range Listing))))
 
@@ -144,3 +147,13 @@ pub clear-fields : (vs : List Content) (ns : List Name) (m : ℕ) → Filled vs 
 clear-fields [] ns m f = tt
 clear-fields (v ∷ vs) [] m f = absurd f
 clear-fields (v ∷ vs) (n ∷ ns) m f = (clear-field n v (f .0 .1), clear-fields vs ns (m - 1) (f .1))
+
+one-byte : (bs : List ℕ) → length bs ≡ 1 → bs ≡ getD bs 0 0 ∷ []
+one-byte [] h = absurd (omega arith)
+one-byte (b ∷ []) h = refl
+one-byte (b ∷ c ∷ bs) h = absurd (omega arith)
+
+-- a text of one letter is the text of the kind that the letter stands for
+pub kind-by-text : (bs : List ℕ) (x : ℕ) (r : Option Kind) → length bs ≡ 1 → x ≡ getD bs 0 0 → Cases r ((k : Kind) → x ≡ letter-of k → ⊥) (λ k. x ≡ letter-of k) → Cases r ((k : Kind) → bs ≡ letter-of k ∷ [] → ⊥) (λ k. bs ≡ letter-of k ∷ [])
+kind-by-text bs x None one is h = λ k e. h k (is ∙ ap (λ l. getD l 0 0) e)
+kind-by-text bs x (Some k) one is h = one-byte bs one ∙ ap (λ y. y ∷ []) (sym is ∙ h)
