@@ -8,8 +8,10 @@ ghost use Rattle.std.specs.Results.{Cases as ByOk};
 ghost use Rattle.std.specs.declared.option.Option.the-variants.{Some, None};
 ghost use Rattle.logline.specs.Forms.{letter-of, required};
 ghost use Rattle.logline.specs.Pieces.{NoBlank};
+ghost use Rattle.logline.specs.Events as Content;
+ghost use Rattle.logline.specs.Events.{content-shape};
 ghost use Rattle.logline.specs.Refusals.{IsField};
-ghost use Rattle.logline.specs.Fields.{ReadFrom, Ends, TakenFrom, Found};
+ghost use Rattle.logline.specs.Fields.{content-of, ReadFrom, Ends, TakenFrom, Found};
 use crate::faults::LineFault;
 use crate::forms::Kind;
 use crate::forms::Name;
@@ -60,6 +62,36 @@ impl<'a> Field<'a> {
                 let kind = kind_of(text)?;
                 Some(Field::Letter { place, text, kind })
             }
+        }
+    }
+
+    // The number that a number's field holds.
+    pub fn number(self) -> u32
+        ensures held { λ r. ⌜ (content-shape (content-of (self .entry)) ≡ Shape.Number → content-of (self .entry) ≡ Content.number r) ⌝ }
+    {
+        match self {
+            Field::Number { value, .. } => value,
+            _ => 0,
+        }
+    }
+
+    // The serial that a serial's field holds.
+    pub fn serial(self) -> &'a [u8]
+        ensures held { λ r. ⌜ (content-shape (content-of (self .entry)) ≡ Shape.Serial → content-of (self .entry) ≡ Content.serial (now r)) ⌝ }
+    {
+        match self {
+            Field::Serial { text, .. } => text,
+            _ => b"",
+        }
+    }
+
+    // The kind that a letter's field holds.
+    pub fn kind(self) -> Kind
+        ensures held { λ r. ⌜ (content-shape (content-of (self .entry)) ≡ Shape.Letter → content-of (self .entry) ≡ Content.letter r) ⌝ }
+    {
+        match self {
+            Field::Letter { kind, .. } => kind,
+            _ => Kind::Ring,
         }
     }
 }

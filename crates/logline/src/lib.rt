@@ -20,4 +20,16 @@ ghost use Rattle.logline.specs.Reading.{ReadAs, Decided};
 ghost use Rattle.logline.specs.Writing.{WroteAs, ReadsBack, WritesBack};
 ghost use Rattle.logline.specs.Fields.{Found};
 
-pub fn probe() -> u8 ensures { λ r. ⌜ ((l : List ℕ) → Decided l → Decided l) ⌝ } { 0 }
+use events::event_of;
+use fields::MOST;
+use fields::fields;
+
+pub fn read<'a>(line: &'a [u8]) -> Result<Event<'a>, LineFault>
+    ensures answered { λ r. ⌜ ReadAs (now (line .entry)) r ⌝ }
+    ensures decided { λ _. ⌜ Decided (now (line .entry)) ⌝ }
+    ensures writes_back { λ r. ⌜ WritesBack (now (line .entry)) r ⌝ }
+{
+    let mut list = [Field::Serial { place: 0, text: line }; MOST];
+    let (word, count) = fields(line, &mut list)?;
+    Ok(event_of(word, &list[0..count]))
+}
