@@ -7,6 +7,7 @@ mod fields;
 mod forms;
 mod numbers;
 mod pieces;
+mod texts;
 
 pub use events::Event;
 pub use faults::LineFault;
