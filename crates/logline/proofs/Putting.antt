@@ -20,7 +20,7 @@ use Rattle.logline.specs.declared.events.Event.the-variants.{Open, Enrol, Play
 use Rattle.logline.specs.Forms.{head, names, required, shape-of}
 use Rattle.logline.specs.Pieces.{NoBlank, led}
 use Rattle.logline.specs.Events.{Content, content-shape, Sound, Filled, field-text, field-texts, Said, said, text, Sayable}
-use Rattle.logline.specs.Writing.{PutWhen, PutAt, PutSaid}
+use Rattle.logline.specs.Writing.{WroteAs, PutWhen, PutAt, PutSaid}
 
 -- bytes put after others
 pub put-more : (may : Type 0) (out mid after a b : List ℕ) (at n : ℕ) (r : Result ℕ LineFault) → length mid ≡ length out → PutAt out at a mid (Ok n) → PutWhen may mid n b after r → PutWhen may out at (a ++ b) after r
@@ -141,3 +141,9 @@ module _ (e : Event) (out : List ℕ) where
 
     pub fronts-last : length (names (s .word)) ≤ i → PutSaid s out (Ok at)
     fronts-last end = let short = shaped-short (s .contents) (names (s .word)) _ (said-shaped e) in fronts-end (omega arith)
+
+-- the line is copied to the front of the places that are lent
+pub copied : (s : Said) (was line part : List ℕ) (n : ℕ) → PutSaid s line (Ok n) → part ≡ take (n - 0) line → 96 ≤ length was → WroteAs s was (part ++ drop (n - 0) was) (Ok n)
+copied s was line part n p e room =
+    let all : n - 0 ≡ n = omega arith in
+    (room, p .0, p .1, (λ i. (e ∙ ap (λ k. take k line) all ∙ p .2) i ++ drop (all i) was))

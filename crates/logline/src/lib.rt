@@ -22,8 +22,11 @@ ghost use Rattle.logline.specs.Writing.{WroteAs, ReadsBack, WritesBack};
 ghost use Rattle.logline.specs.Fields.{Found};
 
 use events::event_of;
+use fields::LONGEST;
 use fields::MOST;
 use fields::fields;
+use texts::put_event;
+ghost use Rattle.logline.specs.Events.{said};
 
 pub fn read<'a>(line: &'a [u8]) -> Result<Event<'a>, LineFault>
     ensures answered { λ r. ⌜ ReadAs (now (line .entry)) r ⌝ }
@@ -33,4 +36,17 @@ pub fn read<'a>(line: &'a [u8]) -> Result<Event<'a>, LineFault>
     let mut list = [Field::Serial { place: 0, text: line }; MOST];
     let (word, count) = fields(line, &mut list)?;
     Ok(event_of(word, &list[0..count]))
+}
+
+pub fn write(event: &Event, out: &mut [u8]) -> Result<usize, LineFault>
+    ensures answered { λ r. ⌜ WroteAs (said (now (event .entry))) (now (out .entry)) (now (out .exit)) r ⌝ }
+    ensures reads_back { λ r. ⌜ ReadsBack (said (now (event .entry))) (now (out .exit)) r ⌝ }
+{
+    if out.len() < LONGEST {
+        return Err(LineFault::Room { needed: LONGEST });
+    }
+    let mut line = [0; LONGEST];
+    let n = put_event(&mut line, event)?;
+    out[0..n].copy_from_slice(&line[0..n]);
+    Ok(n)
 }
