@@ -3,10 +3,10 @@ use mathlib.Core.Path.{_≡_, refl, sym, ap, subst, _∙_}
 use mathlib.Core.Bool.{Bool, true, false, cond, _&&_}
 use mathlib.Core.Logic.{⊎-elim}
 use mathlib.Core.List.{List, [], _∷_, _++_}
-use Prim.Native.Nat.{ℕ, _-_, _^_, _<_}
+use Prim.Native.Nat.{ℕ, _-_, _^_, _<_, _≤_}
 use native.Mathlib.Omega.{arith}
-use borrow.Author.Tests.{eq-eqb, ne-eqb}
-use lib.Dec.{eqb}
+use borrow.Author.Tests.{eq-eqb, ne-eqb, leb-true}
+use lib.Dec.{eqb, leb}
 use lib.ListN.{length, getD}
 use Rattle.std.specs.Written.{decimal}
 use Rattle.std.specs.Options.{Cases}
@@ -25,7 +25,7 @@ use Rattle.logline.specs.declared.forms.Name.{Name}
 use Rattle.logline.specs.declared.forms.Name.the-variants.{Kind as Kind-name, Window, Fine, Seed, Cab, T, Span, From, To, Least}
 use Rattle.logline.specs.declared.forms.Kind.{Kind}
 use Rattle.logline.specs.declared.forms.Kind.the-variants.{Ring, Histogram, Wave}
-use Rattle.logline.specs.Forms.{head, label, letter-of}
+use Rattle.logline.specs.Forms.{head, names, label, letter-of}
 use Rattle.logline.specs.Pieces.{NoBlank}
 use Rattle.logline.specs.Events.{Content, number, serial, letter, content-text, content-shape, Sound, Allowed, Filled, field-text, field-texts}
 
@@ -33,18 +33,33 @@ use Rattle.logline.specs.Events.{Content, number, serial, letter, content-text
 word-by : List ℕ → Word
 word-by h = cond (sameBytes h (head Open)) Open (cond (sameBytes h (head Enrol)) Enrol (cond (sameBytes h (head Play)) Play (cond (sameBytes h (head Ask)) Ask (cond (sameBytes h (head Range)) Range Listing))))
 
-word-back : (w : Word) → word-by (head w) ≡ w
-unfolding word-by
-word-back Open = refl
-word-back Enrol = refl
-word-back Play = refl
-word-back Ask = refl
-word-back Range = refl
-word-back Listing = refl
+-- bytes that are tested to be no blank
+clear-test : List ℕ → Bool
+clear-test [] = true
+clear-test (b ∷ bs) = cond (eqb b 32) false (clear-test bs)
+
+-- what is seen of each form by computing: its first field tells its word and has no blank, and at most four fields follow
+record FormFacts (w : Word) : Type 0 where
+  known : word-by (head w) ≡ w
+  clear : clear-test (head w) ≡ true
+  few : leb (length (names w)) 4 ≡ true
+
+form-facts : (w : Word) → FormFacts w
+unfolding word-by clear-test
+form-facts Open = record { known = refl; clear = refl; few = refl }
+form-facts Enrol = record { known = refl; clear = refl; few = refl }
+form-facts Play = record { known = refl; clear = refl; few = refl }
+form-facts Ask = record { known = refl; clear = refl; few = refl }
+form-facts Range = record { known = refl; clear = refl; few = refl }
+form-facts Listing = record { known = refl; clear = refl; few = refl }
+
+-- no form has more than four fields after its first
+pub few-names : (w : Word) → length (names w) ≤ 4
+few-names w = omega (arith, leb-true, form-facts w .few)
 
 -- a word is known by its first field
 pub same-word : (v w : Word) → head v ≡ head w → v ≡ w
-same-word v w e = sym (word-back v) ∙ ap word-by e ∙ word-back w
+same-word v w e = sym (form-facts v .known) ∙ ap word-by e ∙ form-facts w .known
 
 kind-by : ℕ → Kind
 kind-by l = cond (eqb l 114) Ring (cond (eqb l 104) Histogram Wave)
@@ -90,11 +105,6 @@ same-fields (v ∷ vs) (w ∷ ws) (n ∷ ns) m f g e =
     let there = same-fields vs ws ns (m - 1) (f .1) (g .1) rest in
     λ i. here i ∷ there i
 
--- bytes that are tested to be no blank
-clear-test : List ℕ → Bool
-clear-test [] = true
-clear-test (b ∷ bs) = cond (eqb b 32) false (clear-test bs)
-
 tested : (bs : List ℕ) → clear-test bs ≡ true → NoBlank bs
 unfolding clear-test
 tested [] e = tt
@@ -105,13 +115,7 @@ tested (b ∷ bs) e =
     (cases-eq b 32)
 
 pub clear-head : (w : Word) → NoBlank (head w)
-unfolding clear-test
-clear-head Open = tested (head Open) refl
-clear-head Enrol = tested (head Enrol) refl
-clear-head Play = tested (head Play) refl
-clear-head Ask = tested (head Ask) refl
-clear-head Range = tested (head Range) refl
-clear-head Listing = tested (head Listing) refl
+clear-head w = tested (head w) (form-facts w .clear)
 
 clear-label : (n : Name) → NoBlank (label n)
 unfolding clear-test

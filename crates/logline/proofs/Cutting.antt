@@ -15,7 +15,8 @@ use Rattle.std.specs.declared.option.Option.the-variants.{Some, None}
 use Rattle.std.proofs.shelf.Elements.{all-from-getD}
 use Rattle.std.proofs.shelf.Lists.{getD-take, length-take-le, take-append-drop, take-all, drop-more}
 use Rattle.std.proofs.shelf.Tests.{cases-eq}
-use Rattle.logline.specs.Pieces.{NoBlank, led, spaced, begun-by, cut, rest-bytes, rest-pieces}
+use Rattle.logline.specs.Pieces.{NoBlank, led, spaced, begun-by, cut}
+use Rattle.logline.specs.Steps.{rest-bytes, rest-pieces}
 
 -- a byte that is no blank goes to the first piece
 pub cut-other : (b : ℕ) (bs : List ℕ) → (b ≡ 32 → ⊥) → cut (b ∷ bs) ≡ begun-by b (cut bs)

@@ -20,7 +20,8 @@ use Rattle.logline.specs.declared.events.Event.the-variants.{Open, Enrol, Play
 use Rattle.logline.specs.Forms.{head, names, required, shape-of}
 use Rattle.logline.specs.Pieces.{NoBlank, led}
 use Rattle.logline.specs.Events.{Content, content-shape, Sound, Filled, field-text, field-texts, Said, said, text, Sayable}
-use Rattle.logline.specs.Writing.{WroteAs, PutWhen, PutAt, PutSaid}
+use Rattle.logline.specs.Writing.{WroteAs}
+use Rattle.logline.specs.Steps.{PutWhen, PutAt, PutSaid}
 
 -- bytes put after others
 pub put-more : (may : Type 0) (out mid after a b : List ℕ) (at n : ℕ) (r : Result ℕ LineFault) → length mid ≡ length out → PutAt out at a mid (Ok n) → PutWhen may mid n b after r → PutWhen may out at (a ++ b) after r
@@ -120,15 +121,18 @@ module _ (e : Event) (out : List ℕ) where
 
       pub fronts-stop : (after : List ℕ) (fault : LineFault) → PutWhen (Sound v) out at (32 ∷ field-text n v) after (Err fault) → PutSaid s after (Err fault)
       fronts-stop after (Room k) p = p
-      fronts-stop after (Form q) p = (p .0, λ can.
-        let all = filled-sound (s .contents) (names (s .word)) (length (required (s .word))) (can .filled) in
-        let here : All Sound (v ∷ drop (i + 1) (s .contents)) = subst (All Sound) fields (all-drop Sound i (s .contents) all) in
-        let lt = p .1 (here .0) in
-        let front = length-take-le at out (omega (arith, f .within, f .long)) in
-        let total = ap length whole-next in
-        let parts = length-append (take at out) ((32 ∷ field-text n v) ++ rest) in
-        let inner = length-append (32 ∷ field-text n v) rest in
-        omega (arith, can .short, f .long))
+      fronts-stop after (Form q) p = (
+        p .0,
+        λ can.
+            let all = filled-sound (s .contents) (names (s .word)) (length (required (s .word))) (can .filled) in
+            let here : All Sound (v ∷ drop (i + 1) (s .contents)) = subst (All Sound) fields (all-drop Sound i (s .contents) all) in
+            let lt = p .1 (here .0) in
+            let front = length-take-le at out (omega (arith, f .within, f .long)) in
+            let total = ap length whole-next in
+            let parts = length-append (take at out) ((32 ∷ field-text n v) ++ rest) in
+            let inner = length-append (32 ∷ field-text n v) rest in
+            omega (arith, can .short, f .long),
+      )
 
     pub fronts-end : length (s .contents) ≤ i → PutSaid s out (Ok at)
     fronts-end end =

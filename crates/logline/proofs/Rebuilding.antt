@@ -13,8 +13,9 @@ use Rattle.logline.specs.declared.forms.Shape.{Shape}
 use Rattle.logline.specs.declared.forms.Shape.the-variants.{Number, Serial, Letter}
 use Rattle.logline.specs.declared.fields.Field.{Field}
 use Rattle.logline.specs.Forms.{names, required, optional, shape-of}
-use Rattle.logline.specs.Events.{Content, number, content-shape, Filled, Said, saying, left-out, Holds, HoldsLast}
+use Rattle.logline.specs.Events.{Content, number, content-shape, Filled, Said, saying, left-out}
 use Rattle.logline.specs.Fields.{content-of}
+use Rattle.logline.specs.Steps.{Holds, HoldsLast}
 
 -- the content at a place of a list of fields
 pub content-there : (list : List Field) (i : ℕ) (d : Field) → i < length list → drop i (map content-of list) ≡ content-of (getD list i d) ∷ drop (i + 1) (map content-of list)

@@ -15,14 +15,14 @@ use Rattle.std.specs.declared.result.Result.the-variants.{Ok, Err}
 use Rattle.logline.specs.declared.faults.LineFault.{LineFault}
 use Rattle.logline.specs.declared.faults.LineFault.the-variants.{Room, Form}
 use Rattle.logline.specs.declared.forms.Word.{Word}
-use Rattle.logline.specs.declared.forms.Word.the-variants.{Open, Enrol, Play, Ask, Range, List as Listing}
 use Rattle.logline.specs.declared.forms.Name.{Name}
 use Rattle.logline.specs.declared.fields.Field.{Field}
 use Rattle.logline.specs.Forms.{head, names, required, label}
-use Rattle.logline.specs.Pieces.{spaced, cut, rest-bytes, rest-pieces}
+use Rattle.logline.specs.Pieces.{spaced, cut}
 use Rattle.logline.specs.Events.{Content, Filled, field-text, field-texts, saying, text, Says}
 use Rattle.logline.specs.Refusals.{IsField, Departs, Astray}
-use Rattle.logline.specs.Fields.{content-of, value-bytes, Part, Parts, FieldsOf, Found, ReadFrom, rest-place, Ends, TakenFrom}
+use Rattle.logline.specs.Fields.{content-of, value-bytes, Part, Parts, FieldsOf, Found}
+use Rattle.logline.specs.Steps.{rest-bytes, rest-pieces, ReadFrom, rest-place, Ends, TakenFrom}
 use Rattle.logline.proofs.Cutting.{cut-some, cut-apart}
 
 -- so far i fields are taken: what is found of the rest is found of the whole
@@ -78,18 +78,18 @@ module _ {line : List ℕ} {ps : List (List ℕ)} {ns : List Name} {m here i : �
         record {
           ends = next .0;
           departs = λ q d.
-          w .departs q (subst (λ l. Departs l (drop i ns) (m - i) (length line - length (bytes .now)) (length line) q) (sym cuts)
-          (subst (λ l. Departs (piece ∷ rest-pieces behind) l (m - i) (length line - length (bytes .now)) (length line) q) (sym names)
-          (inl ((v, r .allowed, is), subst (λ k. Departs (rest-pieces behind) (drop (i + 1) ns) k (length line - length (bytes .now) + length piece + 1) (length line) q) (sym less) (subst (λ k. Departs (rest-pieces behind) (drop (i + 1) ns) (m - (i + 1)) k (length line) q) (sym (next .1)) d)))));
+              w .departs q (subst (λ l. Departs l (drop i ns) (m - i) (length line - length (bytes .now)) (length line) q) (sym cuts)
+              (subst (λ l. Departs (piece ∷ rest-pieces behind) l (m - i) (length line - length (bytes .now)) (length line) q) (sym names)
+              (inl ((v, r .allowed, is), subst (λ k. Departs (rest-pieces behind) (drop (i + 1) ns) k (length line - length (bytes .now) + length piece + 1) (length line) q) (sym less) (subst (λ k. Departs (rest-pieces behind) (drop (i + 1) ns) (m - (i + 1)) k (length line) q) (sym (next .1)) d)))));
           fills = λ vs f′ e.
-          let whole-again : map content-of (taken ++ f ∷ []) ++ vs ≡ map content-of taken ++ (v ∷ vs) = ap (λ l. l ++ vs) (map-push content-of taken f) ∙ append-assoc (map content-of taken) (v ∷ []) vs in
-          let old = w .fills (v ∷ vs) (subst (λ l. Filled (v ∷ vs) l (m - i)) (sym names) (r .allowed, subst (Filled vs (drop (i + 1) ns)) (sym less) f′))
-          (cuts ∙ (λ j. is j ∷ e j) ∙ ap (field-texts (v ∷ vs)) (sym names)) in
-          (subst (λ l. Filled l ns m) (sym whole-again) (old .0), old .1 ∙ ap (λ l. field-texts l ns) (sym whole-again));
+              let whole-again : map content-of (taken ++ f ∷ []) ++ vs ≡ map content-of taken ++ (v ∷ vs) = ap (λ l. l ++ vs) (map-push content-of taken f) ∙ append-assoc (map content-of taken) (v ∷ []) vs in
+              let old = w .fills (v ∷ vs) (subst (λ l. Filled (v ∷ vs) l (m - i)) (sym names) (r .allowed, subst (Filled vs (drop (i + 1) ns)) (sym less) f′))
+              (cuts ∙ (λ j. is j ∷ e j) ∙ ap (field-texts (v ∷ vs)) (sym names)) in
+              (subst (λ l. Filled l ns m) (sym whole-again) (old .0), old .1 ∙ ap (λ l. field-texts l ns) (sym whole-again));
           parts = λ fs h.
-          subst (λ l. Parts line l ns here) (sym (append-assoc taken (f ∷ []) fs))
-          (w .parts (f ∷ fs) (subst (λ l. Parts line (f ∷ fs) l (length line - length (bytes .now))) (sym names)
-          (part-here line (bytes .now) piece n f (rest-bytes behind) (w .ends .1) whole r, subst (Parts line fs (drop (i + 1) ns)) (sym (next .1) ∙ ap (λ k. length line - length (bytes .now) + k + 1) long) h)));
+              subst (λ l. Parts line l ns here) (sym (append-assoc taken (f ∷ []) fs))
+              (w .parts (f ∷ fs) (subst (λ l. Parts line (f ∷ fs) l (length line - length (bytes .now))) (sym names)
+              (part-here line (bytes .now) piece n f (rest-bytes behind) (w .ends .1) whole r, subst (Parts line fs (drop (i + 1) ns)) (sym (next .1) ∙ ap (λ k. length line - length (bytes .now) + k + 1) long) h)));
         }
 
     -- the piece is not the field that should stand there
@@ -128,15 +128,6 @@ walk-ended line start w list i (Err (Room k)) h le e = let z : _≡_ {A = ℕ} 0
 walk-ended line start w list i (Err (Form q)) h le e =
     let is : q ≡ length line = cc in
     subst (Departs (rest-pieces start) (names w) (length (required w)) (rest-place line start) (length line)) (sym is) (walk-missing h (e .1))
-
--- no form has more than four fields after its first
-pub few-names : (w : Word) → length (names w) ≤ 4
-few-names Open = omega arith
-few-names Enrol = omega arith
-few-names Play = omega arith
-few-names Ask = omega arith
-few-names Range = omega arith
-few-names Listing = omega arith
 
 -- one field more is put into the list
 pub taking-more : (line : List ℕ) (start : Option (RefT (List ℕ))) (w : Word) (list : List Field) (i : ℕ) (bytes : RefT (List ℕ)) → Taking line start w list i (Some bytes) → i < length list → (n : Name) (here : ℕ) (piece : List ℕ) (behind : Option (RefT (List ℕ))) (f : Field) → drop i (names w) ≡ n ∷ drop (i + 1) (names w) → here ≡ length line - length (bytes .now) → cut (bytes .now) ≡ piece ∷ rest-pieces behind → bytes .now ≡ piece ++ rest-bytes behind → ReadFrom n here piece f → Taking line start w (set list i f) (i + 1) behind

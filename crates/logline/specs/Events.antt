@@ -2,7 +2,7 @@
 use Prim.Native.Nat.{ℕ, _-_, _<_, _≤_, _^_}
 use mathlib.Core.Path.{_≡_}
 use mathlib.Core.List.{List, [], _∷_, _++_}
-use lib.ListN.{length, drop}
+use lib.ListN.{length}
 use Rattle.std.specs.Written.{decimal}
 use Rattle.std.specs.declared.option.Option.{Option}
 use Rattle.std.specs.declared.option.Option.the-variants.{Some, None}
@@ -12,8 +12,6 @@ use Rattle.logline.specs.declared.forms.Name.{Name}
 use Rattle.logline.specs.declared.forms.Shape.{Shape}
 use Rattle.logline.specs.declared.forms.Shape.the-variants.{Number, Serial, Letter}
 use Rattle.logline.specs.declared.forms.Kind.{Kind}
-use Rattle.logline.specs.declared.events.Value.{Value}
-use Rattle.logline.specs.declared.events.Value.the-variants as value
 use Rattle.logline.specs.declared.events.Event.{Event}
 use Rattle.logline.specs.declared.events.Event.the-variants.{Open, Enrol, Play, Ask, Range, List as Listing}
 use Rattle.logline.specs.Forms.{head, required, names, label, shape-of, letter-of}
@@ -99,17 +97,3 @@ said (Play cab t) = saying word.Play (serial (cab .now) ∷ number t ∷ [])
 said (Ask cab t span) = saying word.Ask (serial (cab .now) ∷ number t ∷ left-out span)
 said (Range from to t span) = saying word.Range (number from ∷ number to ∷ number t ∷ left-out span)
 said (Listing least t span) = saying word.List (number least ∷ number t ∷ left-out span)
-
--- what one field of an event holds
-abbrev pub value-content : Value → Content
-value-content (value.Number n) = number n
-value-content (value.Serial s) = serial (s .now)
-value-content (value.Letter k) = letter k
-
--- where a content of this shape stands at a place, it is this one
-abbrev pub Holds : Shape → List Content → ℕ → Content → Type 0
-Holds shape vs i v = (u : Content) (us : List Content) → drop i vs ≡ u ∷ us → content-shape u ≡ shape → u ≡ v
-
--- where a number may be the last content, at a place, this is it, or it is left out
-abbrev pub HoldsLast : List Content → ℕ → Option ℕ → Type 0
-HoldsLast vs i r = (n : Name) → shape-of n ≡ Number → Filled (drop i vs) (n ∷ []) 0 → drop i vs ≡ left-out r

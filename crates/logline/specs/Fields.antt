@@ -1,11 +1,8 @@
 -- The fields of a line, each a part of it.
-use Prim.Native.Nat.{ℕ, _+_, _-_, _≤_}
-use denote.Ref.{RefT}
+use Prim.Native.Nat.{ℕ, _+_, _≤_}
 use mathlib.Core.Path.{_≡_}
 use mathlib.Core.List.{List, [], _∷_, _++_, map}
 use lib.ListN.{length, take, drop}
-use Rattle.std.specs.declared.option.Option.{Option}
-use Rattle.std.specs.declared.option.Option.the-variants.{Some, None}
 use Rattle.std.specs.declared.result.Result.{Result}
 use Rattle.std.specs.declared.result.Result.the-variants.{Ok, Err}
 use Rattle.logline.specs.declared.forms.Word.{Word}
@@ -14,10 +11,9 @@ use Rattle.logline.specs.declared.fields.Field.{Field}
 use Rattle.logline.specs.declared.fields.Field.the-variants.{Number, Serial, Letter}
 use Rattle.logline.specs.declared.faults.LineFault.{LineFault}
 use Rattle.logline.specs.declared.faults.LineFault.the-variants.{Room, Form}
-use Rattle.logline.specs.Forms.{head, required, names, label}
-use Rattle.logline.specs.Pieces.{rest-pieces}
-use Rattle.logline.specs.Events.{Content, number, serial, letter, content-text, Allowed, Filled, field-texts, saying, Says}
-use Rattle.logline.specs.Refusals.{Departs, NotOfForm}
+use Rattle.logline.specs.Forms.{head, names, label}
+use Rattle.logline.specs.Events.{Content, number, serial, letter, content-text, saying, Says}
+use Rattle.logline.specs.Refusals.{NotOfForm}
 
 -- what a field holds
 abbrev pub content-of : Field → Content
@@ -60,26 +56,3 @@ abbrev pub Found : List ℕ → List Field → Result (Word × ℕ) LineFault �
 Found line list (Ok r) = FieldsOf line (r .0) (r .1) list
 Found line list (Err (Room needed)) = ⊥
 Found line list (Err (Form place)) = NotOfForm line place
-
--- a piece read as a field of this name
-pub record ReadFrom (n : Name) (here : ℕ) (piece : List ℕ) (f : Field) : Type 0 where
-  pub place : place-of f ≡ here
-  pub whole : piece ≡ label n ++ value-bytes f
-  pub holds : value-bytes f ≡ content-text (content-of f)
-  pub allowed : Allowed n (content-of f)
-
--- the place of what is left of a line: where nothing is left, it is behind the blank that is not there
-abbrev pub rest-place : List ℕ → Option (RefT (List ℕ)) → ℕ
-rest-place line None = length line + 1
-rest-place line (Some r) = length line - length (r .now)
-
--- what is left of a line is its end
-abbrev pub Ends : List ℕ → Option (RefT (List ℕ)) → Type 0
-Ends line None = Unit {0}
-Ends line (Some r) = (length (r .now) ≤ length line) × (drop (length line - length (r .now)) line ≡ r .now)
-
--- fields taken from what was left of a line, or the place where it departs from the form
-abbrev pub TakenFrom : List ℕ → Option (RefT (List ℕ)) → Word → List Field → Result ℕ LineFault → Type 0
-TakenFrom line rest w list (Ok n) = (n ≤ length list) × Filled (map content-of (take n list)) (names w) (length (required w)) × (rest-pieces rest ≡ field-texts (map content-of (take n list)) (names w)) × Parts line (take n list) (names w) (rest-place line rest)
-TakenFrom line rest w list (Err (Room needed)) = ⊥
-TakenFrom line rest w list (Err (Form place)) = Departs (rest-pieces rest) (names w) (length (required w)) (rest-place line rest) (length line) place

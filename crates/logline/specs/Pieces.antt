@@ -4,10 +4,7 @@ use mathlib.Core.Path.{_≡_}
 use mathlib.Core.Bool.{cond}
 use mathlib.Core.List.{List, [], _∷_, _++_}
 use lib.Dec.{eqb}
-use denote.Ref.{RefT}
 use Rattle.std.specs.shelf.Lists.{All}
-use Rattle.std.specs.declared.option.Option.{Option}
-use Rattle.std.specs.declared.option.Option.the-variants.{Some, None}
 
 -- bytes without a blank
 abbrev pub NoBlank : List ℕ → Type 0
@@ -32,12 +29,3 @@ begun-by b (p ∷ ps) = (b ∷ p) ∷ ps
 abbrev pub cut : List ℕ → List (List ℕ)
 cut [] = [] ∷ []
 cut (b ∷ bs) = cond (eqb b 32) ([] ∷ cut bs) (begun-by b (cut bs))
-
--- what is left of a line after a piece: its bytes with the blank before them, and its pieces
-abbrev pub rest-bytes : Option (RefT (List ℕ)) → List ℕ
-rest-bytes None = []
-rest-bytes (Some r) = 32 ∷ r .now
-
-abbrev pub rest-pieces : Option (RefT (List ℕ)) → List (List ℕ)
-rest-pieces None = []
-rest-pieces (Some r) = cut (r .now)

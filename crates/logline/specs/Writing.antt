@@ -1,5 +1,5 @@
 -- What writing an event answers and leaves, and both round trips.
-use Prim.Native.Nat.{ℕ, _+_, _<_, _≤_}
+use Prim.Native.Nat.{ℕ, _<_, _≤_}
 use mathlib.Core.Path.{_≡_}
 use mathlib.Core.List.{List, _++_}
 use lib.ListN.{length, take, drop}
@@ -26,19 +26,3 @@ ReadsBack s after w = made w (λ n. (r : Result Event LineFault) → ReadAs (tak
 -- whatever writing an event that was read answers and leaves, given room, it is the same line
 abbrev pub WritesBack : List ℕ → Result Event LineFault → Type 0
 WritesBack line r = made r (λ e. (was after : List ℕ) (w : Result ℕ LineFault) → WroteAs (said e) was after w → 96 ≤ length was → Cases w (λ n. (n ≡ length line) × (after ≡ line ++ drop n was)) (λ _. ⊥))
-
--- bytes that may be put, put at a place after those that stand before it; or they may not, or find no room
-abbrev pub PutWhen : (may : Type 0) (out : List ℕ) (at : ℕ) (bytes after : List ℕ) → Result ℕ LineFault → Type 0
-PutWhen may out at bytes after (Ok n) = may × (n ≡ at + length bytes) × (n ≤ length out) × (take n after ≡ take at out ++ bytes)
-PutWhen may out at bytes after (Err (Room needed)) = ⊥
-PutWhen may out at bytes after (Err (Form place)) = (place ≡ 96) × (may → length out < at + length bytes)
-
--- bytes that may always be put
-abbrev pub PutAt : (out : List ℕ) (at : ℕ) (bytes after : List ℕ) → Result ℕ LineFault → Type 0
-PutAt = PutWhen (Unit {0})
-
--- the text of what is said put at the start of 96 places, or it cannot be said in one line
-abbrev pub PutSaid : Said → (after : List ℕ) → Result ℕ LineFault → Type 0
-PutSaid s after (Ok n) = Sayable s × (n ≡ length (text s)) × (take n after ≡ text s)
-PutSaid s after (Err (Room needed)) = ⊥
-PutSaid s after (Err (Form place)) = (place ≡ 96) × (Sayable s → ⊥)

@@ -6,8 +6,9 @@ ghost use lib.ListN.{length, drop};
 ghost use Rattle.std.specs.Options.{Cases as BySome};
 ghost use Rattle.logline.specs.Forms.{names, required};
 ghost use Rattle.logline.specs.Events as Content;
-ghost use Rattle.logline.specs.Events.{Filled, Holds, HoldsLast, said, saying, left-out, value-content};
+ghost use Rattle.logline.specs.Events.{Filled, said, saying, left-out};
 ghost use Rattle.logline.specs.Fields.{content-of};
+ghost use Rattle.logline.specs.Steps.{Holds, HoldsLast, value-content};
 use crate::fields::Field;
 use crate::forms::Kind;
 use crate::forms::Shape;
@@ -16,17 +17,40 @@ use crate::forms::Word;
 // An event: what one line asks for. `span` is remembered as left out where it was.
 #[derive(Clone, Copy)]
 pub enum Event<'a> {
-    Open { kind: Kind, window: u32, fine: u32, seed: u32 },
-    Enrol { cab: &'a [u8] },
-    Play { cab: &'a [u8], t: u32 },
-    Ask { cab: &'a [u8], t: u32, span: Option<u32> },
-    Range { from: u32, to: u32, t: u32, span: Option<u32> },
-    List { least: u32, t: u32, span: Option<u32> },
+    Open {
+        kind: Kind,
+        window: u32,
+        fine: u32,
+        seed: u32,
+    },
+    Enrol {
+        cab: &'a [u8],
+    },
+    Play {
+        cab: &'a [u8],
+        t: u32,
+    },
+    Ask {
+        cab: &'a [u8],
+        t: u32,
+        span: Option<u32>,
+    },
+    Range {
+        from: u32,
+        to: u32,
+        t: u32,
+        span: Option<u32>,
+    },
+    List {
+        least: u32,
+        t: u32,
+        span: Option<u32>,
+    },
 }
 
 // What one field of an event holds.
 #[derive(Clone, Copy)]
-pub enum Value<'a> {
+pub(crate) enum Value<'a> {
     Number(u32),
     Serial(&'a [u8]),
     Letter(Kind),
@@ -34,7 +58,7 @@ pub enum Value<'a> {
 
 impl<'a> Event<'a> {
     // The word that its line begins with.
-    pub fn word(&self) -> Word
+    pub(crate) fn word(&self) -> Word
         ensures told { λ r. ⌜ r ≡ said (now (self .entry)) .word ⌝ }
     {
         match self {
@@ -48,11 +72,16 @@ impl<'a> Event<'a> {
     }
 
     // What its field at this place among the others holds, unless the fields end before.
-    pub fn value(&self, i: usize) -> Option<Value<'a>>
+    pub(crate) fn value(&self, i: usize) -> Option<Value<'a>>
         ensures held { λ r. ⌜ BySome r (length (said (now (self .entry)) .contents) ≤ i) (λ v. drop i (said (now (self .entry)) .contents) ≡ value-content v ∷ drop (i + 1) (said (now (self .entry)) .contents)) ⌝ }
     {
         match *self {
-            Event::Open { kind, window, fine, seed } => match i {
+            Event::Open {
+                kind,
+                window,
+                fine,
+                seed,
+            } => match i {
                 0 => Some(Value::Letter(kind)),
                 1 => Some(Value::Number(window)),
                 2 => Some(Value::Number(fine)),
@@ -154,7 +183,7 @@ fn optional_at(list: &[Field], i: usize) -> Option<u32>
 }
 
 // The event that a word and its fields make.
-pub fn event_of<'a>(word: Word, list: &[Field<'a>]) -> Event<'a>
+pub(crate) fn event_of<'a>(word: Word, list: &[Field<'a>]) -> Event<'a>
     requires { ⌜ Filled (map content-of (now list)) (names word) (length (required word)) ⌝ }
     ensures held { λ r. ⌜ said r ≡ saying word (map content-of (now (list .entry))) ⌝ }
 {
@@ -165,15 +194,28 @@ pub fn event_of<'a>(word: Word, list: &[Field<'a>]) -> Event<'a>
             fine: number_at(list, 2),
             seed: number_at(list, 3),
         },
-        Word::Enrol => Event::Enrol { cab: serial_at(list, 0) },
-        Word::Play => Event::Play { cab: serial_at(list, 0), t: number_at(list, 1) },
-        Word::Ask => Event::Ask { cab: serial_at(list, 0), t: number_at(list, 1), span: optional_at(list, 2) },
+        Word::Enrol => Event::Enrol {
+            cab: serial_at(list, 0),
+        },
+        Word::Play => Event::Play {
+            cab: serial_at(list, 0),
+            t: number_at(list, 1),
+        },
+        Word::Ask => Event::Ask {
+            cab: serial_at(list, 0),
+            t: number_at(list, 1),
+            span: optional_at(list, 2),
+        },
         Word::Range => Event::Range {
             from: number_at(list, 0),
             to: number_at(list, 1),
             t: number_at(list, 2),
             span: optional_at(list, 3),
         },
-        Word::List => Event::List { least: number_at(list, 0), t: number_at(list, 1), span: optional_at(list, 2) },
+        Word::List => Event::List {
+            least: number_at(list, 0),
+            t: number_at(list, 1),
+            span: optional_at(list, 2),
+        },
     }
 }

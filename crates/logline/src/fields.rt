@@ -11,7 +11,8 @@ ghost use Rattle.logline.specs.Pieces.{NoBlank};
 ghost use Rattle.logline.specs.Events as Content;
 ghost use Rattle.logline.specs.Events.{content-shape};
 ghost use Rattle.logline.specs.Refusals.{IsField};
-ghost use Rattle.logline.specs.Fields.{content-of, ReadFrom, Ends, TakenFrom, Found};
+ghost use Rattle.logline.specs.Fields.{content-of, Found};
+ghost use Rattle.logline.specs.Steps.{ReadFrom, Ends, TakenFrom};
 use crate::faults::LineFault;
 use crate::forms::Kind;
 use crate::forms::Name;
@@ -30,9 +31,20 @@ pub const MOST: usize = 4;
 // A field of a line. It borrows the bytes of its value, and `place` is that of its first byte, the first of its name.
 #[derive(Clone, Copy)]
 pub enum Field<'a> {
-    Number { place: usize, text: &'a [u8], value: u32 },
-    Serial { place: usize, text: &'a [u8] },
-    Letter { place: usize, text: &'a [u8], kind: Kind },
+    Number {
+        place: usize,
+        text: &'a [u8],
+        value: u32,
+    },
+    Serial {
+        place: usize,
+        text: &'a [u8],
+    },
+    Letter {
+        place: usize,
+        text: &'a [u8],
+        kind: Kind,
+    },
 }
 
 // The kind whose letter is the whole text.
@@ -66,7 +78,7 @@ impl<'a> Field<'a> {
     }
 
     // The number that a number's field holds.
-    pub fn number(self) -> u32
+    pub(crate) fn number(self) -> u32
         ensures held { λ r. ⌜ (content-shape (content-of (self .entry)) ≡ Shape.Number → content-of (self .entry) ≡ Content.number r) ⌝ }
     {
         match self {
@@ -76,7 +88,7 @@ impl<'a> Field<'a> {
     }
 
     // The serial that a serial's field holds.
-    pub fn serial(self) -> &'a [u8]
+    pub(crate) fn serial(self) -> &'a [u8]
         ensures held { λ r. ⌜ (content-shape (content-of (self .entry)) ≡ Shape.Serial → content-of (self .entry) ≡ Content.serial (now r)) ⌝ }
     {
         match self {
@@ -86,7 +98,7 @@ impl<'a> Field<'a> {
     }
 
     // The kind that a letter's field holds.
-    pub fn kind(self) -> Kind
+    pub(crate) fn kind(self) -> Kind
         ensures held { λ r. ⌜ (content-shape (content-of (self .entry)) ≡ Shape.Letter → content-of (self .entry) ≡ Content.letter r) ⌝ }
     {
         match self {
@@ -115,7 +127,12 @@ fn ended(line: &[u8], word: Word, count: usize) -> Result<usize, LineFault>
 }
 
 // Takes the fields of a word from what is left of a line, as long as there are names, and puts them into a list.
-fn take_fields<'a>(line: &'a [u8], start: Option<&'a [u8]>, word: Word, list: &mut [Field<'a>; 4]) -> Result<usize, LineFault>
+fn take_fields<'a>(
+    line: &'a [u8],
+    start: Option<&'a [u8]>,
+    word: Word,
+    list: &mut [Field<'a>; MOST],
+) -> Result<usize, LineFault>
     requires { ⌜ Ends (now line) start ⌝ }
     ensures taken { λ r. ⌜ TakenFrom (now (line .entry)) (start .entry) word (now (list .exit)) r ⌝ }
 {
@@ -137,11 +154,16 @@ fn take_fields<'a>(line: &'a [u8], start: Option<&'a [u8]>, word: Word, list: &m
     let Some(bytes) = rest else {
         return ended(line, word, count);
     };
-    Err(LineFault::Form { place: place_of(line, bytes) })
+    Err(LineFault::Form {
+        place: place_of(line, bytes),
+    })
 }
 
 // The fields of a line after its first, put into a list, with the word that the first one gives and their number.
-pub fn fields<'a>(line: &'a [u8], list: &mut [Field<'a>; 4]) -> Result<(Word, usize), LineFault>
+pub fn fields_of<'a>(
+    line: &'a [u8],
+    list: &mut [Field<'a>; MOST],
+) -> Result<(Word, usize), LineFault>
     ensures found { λ r. ⌜ Found (now (line .entry)) (now (list .exit)) r ⌝ }
 {
     if line.len() > LONGEST {

@@ -5,7 +5,6 @@ ghost use lib.ListN.{length};
 ghost use Rattle.logline.specs.Forms.{head, names, required, label, shape-of, letter-of};
 ghost use Rattle.std.specs.Options.{Cases as BySome};
 ghost use Rattle.std.specs.Orderings.{Decides};
-
 use crate::pieces::same_bytes;
 
 // What a line asks for: the word after `do=`.
@@ -19,7 +18,14 @@ pub enum Word {
     List,
 }
 
-const WORDS: [Word; 6] = [Word::Open, Word::Enrol, Word::Play, Word::Ask, Word::Range, Word::List];
+const WORDS: [Word; 6] = [
+    Word::Open,
+    Word::Enrol,
+    Word::Play,
+    Word::Ask,
+    Word::Range,
+    Word::List,
+];
 
 // The name of a field.
 #[derive(Clone, Copy, PartialEq, Debug)]
@@ -54,7 +60,7 @@ pub enum Kind {
 
 impl Word {
     // The first field of a line with this word.
-    pub fn head(self) -> &'static [u8]
+    pub(crate) fn head(self) -> &'static [u8]
         ensures bytes { λ r. ⌜ now r ≡ head self ⌝ }
     {
         match self {
@@ -68,7 +74,7 @@ impl Word {
     }
 
     // The fields that follow it, in order.
-    pub fn names(self) -> &'static [Name]
+    pub(crate) fn names(self) -> &'static [Name]
         ensures listed { λ r. ⌜ now r ≡ names self ⌝ }
     {
         match self {
@@ -82,7 +88,7 @@ impl Word {
     }
 
     // How many of them have to be there; the others may be left out at the end.
-    pub fn required(self) -> usize
+    pub(crate) fn required(self) -> usize
         ensures counted { λ r. ⌜ r ≡ length (required self) ⌝ }
     {
         match self {
@@ -96,14 +102,14 @@ impl Word {
     }
 
     // Whether a line's first field gives this word.
-    pub fn is_given_by(self, field: &[u8]) -> bool
+    fn is_given_by(self, field: &[u8]) -> bool
         ensures decided { λ r. ⌜ Decides r (now (field .entry) ≡ head self) ⌝ }
     {
         same_bytes(field, self.head())
     }
 
     // The word that a line's first field gives.
-    pub fn read(field: &[u8]) -> Option<Word>
+    pub(crate) fn read(field: &[u8]) -> Option<Word>
         ensures found { λ r. ⌜ BySome r ((w : Word) → now (field .entry) ≡ head w → ⊥) (λ w. now (field .entry) ≡ head w) ⌝ }
     {
         for word in WORDS {
@@ -117,7 +123,7 @@ impl Word {
 
 impl Name {
     // The name with its equals sign, as it begins a field.
-    pub fn label(self) -> &'static [u8]
+    pub(crate) fn label(self) -> &'static [u8]
         ensures bytes { λ r. ⌜ now r ≡ label self ⌝ }
     {
         match self {
@@ -135,7 +141,7 @@ impl Name {
     }
 
     // What stands after it.
-    pub fn shape(self) -> Shape
+    pub(crate) fn shape(self) -> Shape
         ensures told { λ r. ⌜ r ≡ shape-of self ⌝ }
     {
         match self {

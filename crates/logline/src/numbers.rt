@@ -3,7 +3,7 @@ ghost use mathlib.Core.Path.{_≡_};
 ghost use Prim.Native.Nat.{ℕ, _+_, _-_, _*_, _<_, _≤_, _^_};
 ghost use lib.ListN.{length, getD};
 ghost use Rattle.std.specs.Orderings.{Decides};
-ghost use Rattle.logline.specs.Numbers.{Extends, NumberOf};
+ghost use Rattle.logline.specs.Steps.{Extends, NumberOf};
 
 const LARGEST: u64 = 4_294_967_295;
 
@@ -29,7 +29,7 @@ fn has_leading_zero(text: &[u8]) -> bool
 }
 
 // The number that a text writes: decimal, at most the largest, and with no leading zero.
-pub fn number(text: &[u8]) -> Option<u32>
+pub(crate) fn number(text: &[u8]) -> Option<u32>
     ensures found { λ r. ⌜ NumberOf (now (text .entry)) r ⌝ }
 {
     if text.is_empty() {

@@ -5,24 +5,25 @@ ghost use Prim.Native.Nat.{ℕ, _+_, _<_, _≤_};
 ghost use lib.ListN.{length, getD, drop};
 ghost use Rattle.std.specs.Options.{Cases as BySome};
 ghost use Rattle.std.specs.Orderings.{Decides};
-ghost use Rattle.logline.specs.Pieces.{NoBlank, cut, rest-pieces, rest-bytes};
+ghost use Rattle.logline.specs.Pieces.{NoBlank, cut};
+ghost use Rattle.logline.specs.Steps.{rest-pieces, rest-bytes};
 
 // Whether two texts have the same bytes.
-pub fn same_bytes(a: &[u8], b: &[u8]) -> bool
+pub(crate) fn same_bytes(a: &[u8], b: &[u8]) -> bool
     ensures decided { λ r. ⌜ Decides r (now (a .entry) ≡ now (b .entry)) ⌝ }
 {
     a == b
 }
 
 // What follows a beginning, where the text has that beginning.
-pub fn after<'a>(text: &'a [u8], beginning: &[u8]) -> Option<&'a [u8]>
+pub(crate) fn after<'a>(text: &'a [u8], beginning: &[u8]) -> Option<&'a [u8]>
     ensures found { λ r. ⌜ BySome r ((rest : List ℕ) → now (text .entry) ≡ now (beginning .entry) ++ rest → ⊥) (λ rest. now (text .entry) ≡ now (beginning .entry) ++ rest .now) ⌝ }
 {
     text.strip_prefix(beginning)
 }
 
 // How many bytes stand before the first blank.
-pub fn before_blank(bytes: &[u8]) -> usize
+pub(crate) fn before_blank(bytes: &[u8]) -> usize
     ensures within { λ r. ⌜ r ≤ length (now (bytes .entry)) ⌝ }
     ensures clear { λ r. ⌜ ((k : ℕ) → k < r → getD (now (bytes .entry)) k 0 ≡ 32 → ⊥) ⌝ }
     ensures stops { λ r. ⌜ (r < length (now (bytes .entry)) → getD (now (bytes .entry)) r 0 ≡ 32) ⌝ }
@@ -36,7 +37,7 @@ pub fn before_blank(bytes: &[u8]) -> usize
 }
 
 // What follows the blank at a place, unless the bytes end there.
-pub fn after_blank<'a>(bytes: &'a [u8], at: usize) -> Option<&'a [u8]>
+pub(crate) fn after_blank<'a>(bytes: &'a [u8], at: usize) -> Option<&'a [u8]>
     requires { ⌜ at ≤ length (now bytes) ⌝ }
     ensures rest { λ r. ⌜ BySome r (at ≡ length (now (bytes .entry))) (λ rest. (at < length (now (bytes .entry))) × (rest .now ≡ drop (at + 1) (now (bytes .entry)))) ⌝ }
 {
@@ -48,7 +49,7 @@ pub fn after_blank<'a>(bytes: &'a [u8], at: usize) -> Option<&'a [u8]>
 }
 
 // The first piece, and what follows its blank, where there is one.
-pub fn first_piece<'a>(bytes: &'a [u8]) -> (&'a [u8], Option<&'a [u8]>)
+pub(crate) fn first_piece<'a>(bytes: &'a [u8]) -> (&'a [u8], Option<&'a [u8]>)
     ensures clear { λ r. ⌜ NoBlank (now (r .0)) ⌝ }
     ensures pieces { λ r. ⌜ cut (now (bytes .entry)) ≡ now (r .0) ∷ rest-pieces (r .1) ⌝ }
     ensures whole { λ r. ⌜ now (bytes .entry) ≡ now (r .0) ++ rest-bytes (r .1) ⌝ }

@@ -6,8 +6,8 @@ ghost use lib.ListN.{length};
 ghost use mathlib.Core.Bool as Bool;
 ghost use Rattle.std.specs.Written.{decimal};
 ghost use Rattle.logline.specs.Pieces.{NoBlank};
-ghost use Rattle.logline.specs.Events.{content-text, Sound, field-text, value-content, said};
-ghost use Rattle.logline.specs.Writing.{PutAt, PutWhen, PutSaid};
+ghost use Rattle.logline.specs.Events.{content-text, Sound, field-text, said};
+ghost use Rattle.logline.specs.Steps.{value-content, PutAt, PutWhen, PutSaid};
 use crate::events::Event;
 use crate::events::Value;
 use crate::faults::LineFault;
@@ -77,7 +77,7 @@ fn put_field(out: &mut [u8], at: usize, name: Name, value: Value) -> Result<usiz
 }
 
 // Puts the whole line of an event.
-pub fn put_event(out: &mut [u8], event: &Event) -> Result<usize, LineFault>
+pub(crate) fn put_event(out: &mut [u8], event: &Event) -> Result<usize, LineFault>
     requires { ⌜ length (now out) ≡ 96 ⌝ }
     ensures put { λ r. ⌜ PutSaid (said (now (event .entry))) (now (out .exit)) r ⌝ }
 {

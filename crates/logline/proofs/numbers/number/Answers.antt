@@ -2,7 +2,7 @@ use mathlib.Core.Path.{refl, sym, subst}
 use native.Mathlib.Omega.{arith}
 use borrow.Author.Needs.{needs}
 use Rattle.std.proofs.str.Numerals.{begun}
-use Rattle.logline.specs.Numbers.{NumberOf}
+use Rattle.logline.specs.Steps.{NumberOf}
 use Rattle.logline.proofs.Decimal.{no-number-empty, no-number-zero, digit-more, no-number-on, number-read}
 use Rattle.logline.proofs.numbers.number.Needs as need
 

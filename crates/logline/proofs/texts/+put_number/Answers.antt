@@ -5,7 +5,7 @@ use native.Mathlib.Omega.{arith}
 use Rattle.std.specs.Written.{decimal}
 use Rattle.std.specs.declared.result.Result.the-variants.{Err}
 use Rattle.std.proofs.shelf.Results.{err-from-errBy}
-use Rattle.logline.specs.Writing.{PutAt}
+use Rattle.logline.specs.Steps.{PutAt}
 use Rattle.logline.proofs.Putting.{put-more, put-stops, one-digit, more-digits}
 use Rattle.logline.proofs.texts.+put_number.Needs as need
 
@@ -22,5 +22,7 @@ returns-in-Break-end t c =
 pub returns : need.returns
 returns t c =
     let out = c .args .out .now in
-    record { put = subst (λ l. PutAt out (c .args .at) l (c .put-2 .last .out) (c .put-2 .result)) (more-digits (c .args .number) (c .if-number-lt10 .left) (omega arith))
-    (put-more (Unit {0}) out (c .put-number .last .out) (c .put-2 .last .out) (decimal (c .args .number / 10)) ((48 + c .args .number % 10) ∷ []) (c .args .at) (c .in-Continue-end .end) (c .put-2 .result) (omega arith) (c .in-Continue-end .ensures tt .put) (c .put-2 .ensures .put)) }
+    record {
+      put = subst (λ l. PutAt out (c .args .at) l (c .put-2 .last .out) (c .put-2 .result)) (more-digits (c .args .number) (c .if-number-lt10 .left) (omega arith))
+          (put-more (Unit {0}) out (c .put-number .last .out) (c .put-2 .last .out) (decimal (c .args .number / 10)) ((48 + c .args .number % 10) ∷ []) (c .args .at) (c .in-Continue-end .end) (c .put-2 .result) (omega arith) (c .in-Continue-end .ensures tt .put) (c .put-2 .ensures .put));
+    }

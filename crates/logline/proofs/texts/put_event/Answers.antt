@@ -4,8 +4,8 @@ use lib.ListN.{length}
 use Rattle.std.specs.declared.result.Result.the-variants.{Err}
 use Rattle.std.proofs.shelf.Results.{err-from-errBy}
 use Rattle.logline.specs.Forms.{names}
-use Rattle.logline.specs.Events.{said, value-content}
-use Rattle.logline.specs.Writing.{PutSaid}
+use Rattle.logline.specs.Events.{said}
+use Rattle.logline.specs.Steps.{value-content, PutSaid}
 use Rattle.logline.proofs.Walking.{next-name}
 use Rattle.logline.proofs.Putting.{fronts-more, fronts-stop, fronts-end, fronts-last}
 use Rattle.logline.proofs.texts.put_event.Needs as need

@@ -3,8 +3,8 @@ use mathlib.Core.List.{[], _∷_, _++_}
 use native.Mathlib.Omega.{arith}
 use Rattle.std.specs.declared.result.Result.the-variants.{Ok}
 use Rattle.logline.specs.Forms.{label}
-use Rattle.logline.specs.Events.{Sound, content-text, value-content}
-use Rattle.logline.specs.Writing.{PutAt}
+use Rattle.logline.specs.Events.{Sound, content-text}
+use Rattle.logline.specs.Steps.{value-content, PutAt}
 use Rattle.logline.proofs.Putting.{put-more}
 use Rattle.logline.proofs.texts.put_field.Needs as need
 

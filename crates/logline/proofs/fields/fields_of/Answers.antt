@@ -4,7 +4,7 @@ use Rattle.std.specs.declared.result.Result.the-variants.{Err}
 use Rattle.std.proofs.shelf.Results.{err-from-errBy}
 use Rattle.logline.specs.Fields.{Found}
 use Rattle.logline.proofs.Walking.{line-found, line-refused}
-use Rattle.logline.proofs.fields.fields.Needs as need
+use Rattle.logline.proofs.fields.fields_of.Needs as need
 
 pub returns : need.returns
 returns c =
