@@ -100,35 +100,20 @@ impl<'a> Event<'a> {
             Event::Ask { cab, t, span } => match i {
                 0 => Some(Value::Serial(cab)),
                 1 => Some(Value::Number(t)),
-                2 => {
-                    let Some(n) = span else {
-                        return None;
-                    };
-                    Some(Value::Number(n))
-                }
+                2 => Some(Value::Number(span?)),
                 _ => None,
             },
             Event::Range { from, to, t, span } => match i {
                 0 => Some(Value::Number(from)),
                 1 => Some(Value::Number(to)),
                 2 => Some(Value::Number(t)),
-                3 => {
-                    let Some(n) = span else {
-                        return None;
-                    };
-                    Some(Value::Number(n))
-                }
+                3 => Some(Value::Number(span?)),
                 _ => None,
             },
             Event::List { least, t, span } => match i {
                 0 => Some(Value::Number(least)),
                 1 => Some(Value::Number(t)),
-                2 => {
-                    let Some(n) = span else {
-                        return None;
-                    };
-                    Some(Value::Number(n))
-                }
+                2 => Some(Value::Number(span?)),
                 _ => None,
             },
         }

@@ -26,7 +26,12 @@ fn bare(line: &[u8]) -> &[u8] {
 // What an event says, value by value; of a serial, how many bytes it has.
 fn described(heap: Global, event: Event) -> Result<String, AllocError> {
     match event {
-        Event::Open { kind, window, fine, seed } => {
+        Event::Open {
+            kind,
+            window,
+            fine,
+            seed,
+        } => {
             let letter = kind.letter();
             format!(heap, "open {letter} {window} {fine} {seed}")
         }
@@ -42,7 +47,10 @@ fn described(heap: Global, event: Event) -> Result<String, AllocError> {
             let long = cab.len();
             format!(heap, "ask of {long} at {t} over {span:?}")
         }
-        Event::Range { from, to, t, span } => format!(heap, "range {from} to {to} at {t} over {span:?}"),
+        Event::Range { from, to, t, span } => format!(
+            heap,
+            "range {from} to {to} at {t} over {span:?}"
+        ),
         Event::List { least, t, span } => format!(heap, "list {least} at {t} over {span:?}"),
     }
 }
@@ -59,7 +67,10 @@ fn place_and_length(field: Field) -> (usize, usize) {
 // The places of the fields of a line.
 fn places(heap: Global, line: &[u8]) -> Result<String, AllocError> {
     let mut text = String::new(heap);
-    let mut list = [Field::Serial { place: 0, text: line }; MOST];
+    let mut list = [Field::Serial {
+        place: 0,
+        text: line,
+    }; MOST];
     if let Ok((_, count)) = fields_of(line, &mut list) {
         for i in 0..MOST {
             if i < count {

@@ -4,10 +4,10 @@ use Prim.Native.Nat.{_-_}
 use native.Mathlib.Omega.{arith}
 use lib.ListN.{take}
 use Rattle.std.specs.declared.result.Result.the-variants.{Ok, Err}
-use Rattle.std.proofs.shelf.Results.{err-from-errBy}
 use Rattle.logline.specs.Events.{saying, Says}
 use Rattle.logline.specs.Fields.{content-of}
 use Rattle.logline.specs.Reading.{ReadAs}
+use Rattle.logline.proofs.Raising.{raised}
 use Rattle.logline.proofs.Deciding.{decided}
 use Rattle.logline.proofs.Returning.{writes-back, refused}
 use Rattle.logline.proofs.read.Needs as need
@@ -15,8 +15,8 @@ use Rattle.logline.proofs.read.Needs as need
 pub returns-in-Break-word : need.returns-in-Break-word
 returns-in-Break-word c =
     let line = c .args .line .now in
-    let e = err-from-errBy (c .from-residual .result) (c .from-residual .ensures .1) in
-    let answer = subst (ReadAs line) (sym (e .1 ∙ ap Err (e .2))) (refused line (c .fields-of .last .list) (c .in-Break-word .field-0 .0) (c .in-Break-word .ensures tt .found)) in
+    let e = raised (c .from-residual .result) (c .in-Break-word .field-0 .0) (c .from-residual .ensures .1) in
+    let answer = subst (ReadAs line) (sym e) (refused line (c .fields-of .last .list) (c .in-Break-word .field-0 .0) (c .in-Break-word .ensures tt .found)) in
     record { answered = answer; decided = decided line; writes-back = writes-back line (c .from-residual .result) answer }
 
 pub returns : need.returns

@@ -4,8 +4,8 @@ use Prim.Native.Nat.{_+_, _/_, _%_}
 use native.Mathlib.Omega.{arith}
 use Rattle.std.specs.Written.{decimal}
 use Rattle.std.specs.declared.result.Result.the-variants.{Err}
-use Rattle.std.proofs.shelf.Results.{err-from-errBy}
 use Rattle.logline.specs.Steps.{PutAt}
+use Rattle.logline.proofs.Raising.{raised}
 use Rattle.logline.proofs.Putting.{put-more, put-stops, one-digit, more-digits}
 use Rattle.logline.proofs.texts.+put_number.Needs as need
 
@@ -15,9 +15,9 @@ returns-then-number-lt10 t c = record { put = subst (λ l. PutAt (c .args .out .
 pub returns-in-Break-end : need.returns-in-Break-end
 returns-in-Break-end t c =
     let out = c .args .out .now in
-    let e = err-from-errBy (c .from-residual .result) (c .from-residual .ensures .1) in
+    let e = raised (c .from-residual .result) (c .in-Break-end .field-0 .0) (c .from-residual .ensures .1) in
     let stops = put-stops (Unit {0}) out (c .put-number .last .out) (c .put-number .last .out) (decimal (c .args .number / 10)) ((48 + c .args .number % 10) ∷ []) (c .args .at) (c .in-Break-end .field-0 .0) (c .in-Break-end .ensures tt .put) in
-    record { put = subst (PutAt out (c .args .at) (decimal (c .args .number)) (c .put-number .last .out)) (sym (e .1 ∙ ap Err (e .2))) (subst (λ l. PutAt out (c .args .at) l (c .put-number .last .out) (Err (c .in-Break-end .field-0 .0))) (more-digits (c .args .number) (c .if-number-lt10 .left) (omega arith)) stops) }
+    record { put = subst (PutAt out (c .args .at) (decimal (c .args .number)) (c .put-number .last .out)) (sym e) (subst (λ l. PutAt out (c .args .at) l (c .put-number .last .out) (Err (c .in-Break-end .field-0 .0))) (more-digits (c .args .number) (c .if-number-lt10 .left) (omega arith)) stops) }
 
 pub returns : need.returns
 returns t c =
