@@ -35,11 +35,7 @@ cut-led (p ∷ ps) clear = ap (λ l. [] ∷ l) (cut-front p (led ps) ps (clear .
 pub cut-spaced : (p : List ℕ) (ps : List (List ℕ)) → NoBlank p → All NoBlank ps → cut (spaced (p ∷ ps)) ≡ p ∷ ps
 cut-spaced p ps clear rest = cut-front p (led ps) ps clear (cut-led ps rest)
 
--- a line without blanks is its own piece
-pub cut-whole : (p : List ℕ) → NoBlank p → cut p ≡ p ∷ []
-cut-whole p clear = ap cut (sym (append-nil p)) ∙ cut-front p [] [] clear refl
-
--- a line of pieces with no pieces, or whose first piece grows, is put together as it was
+-- pieces without blanks that make up a line
 Whole : List ℕ → List (List ℕ) → Type 0
 Whole line [] = ⊥
 Whole line (p ∷ ps) = (spaced (p ∷ ps) ≡ line) × All NoBlank (p ∷ ps)

@@ -8,7 +8,7 @@ use lib.ListN.{length, getD, set, take, drop, length-append, length-drop}
 use denote.Ref.{RefT}
 use Rattle.std.specs.declared.option.Option.{Option}
 use Rattle.std.specs.declared.option.Option.the-variants.{Some, None}
-use Rattle.std.proofs.shelf.Lists.{take-at, drop-at, drop-drop, drop-all, drop-more, map-push, take-more-set}
+use Rattle.std.proofs.shelf.Lists.{take-at, drop-at, drop-drop, drop-all, drop-more, map-push, take-more-set, length-take-le}
 use Rattle.std.specs.Results.{Cases}
 use Rattle.std.specs.declared.result.Result.{Result}
 use Rattle.std.specs.declared.result.Result.the-variants.{Ok, Err}
@@ -24,6 +24,7 @@ use Rattle.logline.specs.Refusals.{IsField, Departs, Astray}
 use Rattle.logline.specs.Fields.{content-of, value-bytes, Part, Parts, FieldsOf, Found}
 use Rattle.logline.specs.Steps.{rest-bytes, rest-pieces, ReadFrom, rest-place, Ends, TakenFrom}
 use Rattle.logline.proofs.Cutting.{cut-some, cut-apart}
+use Rattle.logline.proofs.Contents.{few-names}
 
 -- so far i fields are taken: what is found of the rest is found of the whole
 pub record Walk (line : List ℕ) (ps : List (List ℕ)) (ns : List Name) (m here : ℕ) (i : ℕ) (taken : List Field) (rest : Option (RefT (List ℕ))) : Type 0 where
@@ -92,13 +93,6 @@ module _ {line : List ℕ} {ps : List (List ℕ)} {ns : List Name} {m here i : �
               (part-here line (bytes .now) piece n f (rest-bytes behind) (w .ends .1) whole r, subst (Parts line fs (drop (i + 1) ns)) (sym (next .1) ∙ ap (λ k. length line - length (bytes .now) + k + 1) long) h)));
         }
 
-    -- the piece is not the field that should stand there
-    pub walk-wrong : (n : Name) (piece : List ℕ) (behind : Option (RefT (List ℕ))) → drop i ns ≡ n ∷ drop (i + 1) ns → cut (bytes .now) ≡ piece ∷ rest-pieces behind → (IsField n piece → ⊥) → Departs ps ns m here (length line) (length line - length (bytes .now))
-    walk-wrong n piece behind names cuts other =
-        let place = length line - length (bytes .now) in
-        w .departs place (subst (λ l. Departs l (drop i ns) (m - i) place (length line) place) (sym cuts)
-        (subst (λ l. Departs (piece ∷ rest-pieces behind) l (m - i) place (length line) place) (sym names) (inr (other, refl))))
-
     -- more follows than there are names
     pub walk-surplus : length ns ≤ i → Departs ps ns m here (length line) (length line - length (bytes .now))
     walk-surplus end =
@@ -160,3 +154,33 @@ module _ (line first : List ℕ) (rest : Option (RefT (List ℕ))) (w : Word) (w
   line-refused list (Room k) t = t
   line-refused list (Form q) t =
       inr (short, subst (λ l. Astray l (length line) q) (sym pieces) (inr (w, given, subst (λ k. Departs (rest-pieces rest) (names w) (length (required w)) k (length line) q) (line-place ∙ ap (λ l. length l + 1) (sym given)) t)))
+
+parts-few : (line : List ℕ) (fs : List Field) (ns : List Name) (here : ℕ) → Parts line fs ns here → length fs ≤ length ns
+parts-few line [] ns here h = omega arith
+parts-few line (f ∷ fs) [] here h = absurd h
+parts-few line (f ∷ fs) (n ∷ ns) here h = let k = parts-few line fs ns (here + length (label n ++ value-bytes f) + 1) (h .1) in omega arith
+
+-- no more fields are found than a form has
+pub few-found : (line : List ℕ) (w : Word) (n : ℕ) (list : List Field) → FieldsOf line w n list → n ≤ 4
+few-found line w n list h = omega (arith, length-take-le n list (h .room), parts-few line (take n list) (names w) (length (head w) + 1) (h .parts), few-names w)
+
+-- the fields that were found are copied to the front of a list
+module _ (line : List ℕ) (w : Word) (n : ℕ) (found part was : List Field) (h : FieldsOf line w n found) (front : part ≡ take (n - 0) found) where
+  same-part : part ≡ take n found
+  same-part = let all : n - 0 ≡ n = omega arith in front ∙ ap (λ k. take k found) all
+
+  part-long : length part ≡ n
+  part-long = ap length same-part ∙ length-take-le n found (h .room)
+
+  pub copy-found : FieldsOf line w n (part ++ drop (n - 0) was)
+  copy-found =
+      let now : List Field = part ++ drop (n - 0) was in
+      let is : take n now ≡ take n found = take-at part (drop (n - 0) was) n part-long ∙ same-part in
+      record {
+        room = omega (arith, length-append part (drop (n - 0) was), part-long);
+        says = subst (λ l. Says line (saying w (map content-of l))) (sym is) (h .says);
+        parts = subst (λ l. Parts line l (names w) (length (head w) + 1)) (sym is) (h .parts);
+      }
+
+  pub copy-kept : drop n (part ++ drop (n - 0) was) ≡ drop n was
+  copy-kept = let all : n - 0 ≡ n = omega arith in drop-at part (drop (n - 0) was) n part-long ∙ ap (λ k. drop k was) all

@@ -2,7 +2,8 @@
 ghost use mathlib.Core.Path.{_≡_};
 ghost use mathlib.Core.List.{List, [], _∷_};
 ghost use Prim.Native.Nat.{ℕ, _-_, _<_, _≤_};
-ghost use lib.ListN.{length};
+ghost use lib.ListN.{length, drop};
+ghost use Rattle.std.specs.Vec.{made, refused};
 ghost use Rattle.std.specs.Options.{Cases as BySome};
 ghost use Rattle.std.specs.Results.{Cases as ByOk};
 ghost use Rattle.std.specs.declared.option.Option.the-variants.{Some, None};
@@ -159,8 +160,8 @@ fn take_fields<'a>(
     })
 }
 
-// The fields of a line after its first, put into a list, with the word that the first one gives and their number.
-pub fn fields_of<'a>(
+// Finds the fields of a line after its first, and puts them into a list as it goes.
+pub(crate) fn find_fields<'a>(
     line: &'a [u8],
     list: &mut [Field<'a>; MOST],
 ) -> Result<(Word, usize), LineFault>
@@ -174,5 +175,24 @@ pub fn fields_of<'a>(
         return Err(LineFault::Form { place: 0 });
     };
     let count = take_fields(line, rest, word, list)?;
+    Ok((word, count))
+}
+
+// The fields of a line after its first, put into a list, with the word that the first one gives and their number.
+// A refusal leaves the list as it was.
+pub fn fields_of<'a>(
+    line: &'a [u8],
+    list: &mut [Field<'a>; MOST],
+) -> Result<(Word, usize), LineFault>
+    ensures found { λ r. ⌜ Found (now (line .entry)) (now (list .exit)) r ⌝ }
+    ensures kept { λ r. ⌜ made r (λ p. drop (p .1) (now (list .exit)) ≡ drop (p .1) (now (list .entry))) ⌝ }
+    ensures unchanged { λ r. ⌜ refused r (λ _. now (list .exit) ≡ now (list .entry)) ⌝ }
+{
+    let mut found = [Field::Serial {
+        place: 0,
+        text: line,
+    }; MOST];
+    let (word, count) = find_fields(line, &mut found)?;
+    list[0..count].copy_from_slice(&found[0..count]);
     Ok((word, count))
 }

@@ -18,6 +18,7 @@ pub use fields::Field;
 pub use fields::LONGEST;
 pub use fields::MOST;
 pub use fields::fields_of;
+use fields::find_fields;
 pub use forms::Kind;
 pub use forms::Name;
 pub use forms::Shape;
@@ -34,7 +35,7 @@ pub fn read<'a>(line: &'a [u8]) -> Result<Event<'a>, LineFault>
         place: 0,
         text: line,
     }; MOST];
-    let (word, count) = fields_of(line, &mut list)?;
+    let (word, count) = find_fields(line, &mut list)?;
     Ok(event_of(word, &list[0..count]))
 }
 

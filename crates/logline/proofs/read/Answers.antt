@@ -16,7 +16,7 @@ pub returns-in-Break-word : need.returns-in-Break-word
 returns-in-Break-word c =
     let line = c .args .line .now in
     let e = raised (c .from-residual .result) (c .in-Break-word .field-0 .0) (c .from-residual .ensures .1) in
-    let answer = subst (ReadAs line) (sym e) (refused line (c .fields-of .last .list) (c .in-Break-word .field-0 .0) (c .in-Break-word .ensures tt .found)) in
+    let answer = subst (ReadAs line) (sym e) (refused line (c .find-fields .last .list) (c .in-Break-word .field-0 .0) (c .in-Break-word .ensures tt .found)) in
     record { answered = answer; decided = decided line; writes-back = writes-back line (c .from-residual .result) answer }
 
 pub returns : need.returns
@@ -24,6 +24,6 @@ returns c =
     let line = c .args .line .now in
     let n = c .in-Continue-word .count in
     let all : n - 0 ≡ n = omega arith in
-    let same = c .event-of .ensures .held ∙ ap (λ k. saying (c .in-Continue-word .word) (map content-of (take k (c .fields-of .last .list)))) all in
+    let same = c .event-of .ensures .held ∙ ap (λ k. saying (c .in-Continue-word .word) (map content-of (take k (c .find-fields .last .list)))) all in
     let answer = subst (Says line) (sym same) (c .in-Continue-word .ensures tt .found .says) in
     record { answered = answer; decided = decided line; writes-back = writes-back line (Ok (c .event-of .result)) answer }
