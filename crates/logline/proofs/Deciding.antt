@@ -10,7 +10,7 @@ use Rattle.logline.specs.declared.forms.Name.{Name}
 use Rattle.logline.specs.Forms.{head, names, required}
 use Rattle.logline.specs.Pieces.{cut}
 use Rattle.logline.specs.Events.{Content, Filled, field-text, field-texts, Said, saying, text, Says}
-use Rattle.logline.specs.Refusals.{Departs, Astray, NotOfForm}
+use Rattle.logline.specs.Refusals.{Departs, NoForm, NotOfForm}
 use Rattle.logline.specs.Reading.{Decided}
 use Rattle.logline.proofs.Cutting.{cut-spaced, cut-apart}
 use Rattle.logline.proofs.Contents.{same-word, same-fields, clear-head, clear-fields}
@@ -41,12 +41,12 @@ same-departure (b ∷ ps) (n ∷ ns) m here end p q (inl d) (inr e) = absurd (e 
 same-departure (b ∷ ps) (n ∷ ns) m here end p q (inr d) (inl e) = absurd (d .0 (e .0))
 same-departure (b ∷ ps) (n ∷ ns) m here end p q (inr d) (inr e) = d .1 ∙ sym (e .1)
 
-same-astray : (ps : List (List ℕ)) (end p q : ℕ) → Astray ps end p → Astray ps end q → p ≡ q
-same-astray [] end p q d e = absurd d
-same-astray (b ∷ ps) end p q (inl d) (inl e) = d .1 ∙ sym (e .1)
-same-astray (b ∷ ps) end p q (inl d) (inr e) = absurd (d .0 (e .0) (e .1))
-same-astray (b ∷ ps) end p q (inr d) (inl e) = absurd (e .0 (d .0) (d .1))
-same-astray (b ∷ ps) end p q (inr d) (inr e) =
+same-no-form : (ps : List (List ℕ)) (end p q : ℕ) → NoForm ps end p → NoForm ps end q → p ≡ q
+same-no-form [] end p q d e = absurd d
+same-no-form (b ∷ ps) end p q (inl d) (inl e) = d .1 ∙ sym (e .1)
+same-no-form (b ∷ ps) end p q (inl d) (inr e) = absurd (d .0 (e .0) (e .1))
+same-no-form (b ∷ ps) end p q (inr d) (inl e) = absurd (e .0 (d .0) (d .1))
+same-no-form (b ∷ ps) end p q (inr d) (inr e) =
     let w = same-word (d .0) (e .0) (sym (d .1) ∙ e .1) in
     same-departure ps (names (e .0)) (length (required (e .0))) (length b + 1) end p q (subst (λ u. Departs ps (names u) (length (required u)) (length b + 1) end p) w (d .2)) (e .2)
 
@@ -54,7 +54,7 @@ one-place : (line : List ℕ) (p q : ℕ) → NotOfForm line p → NotOfForm lin
 one-place line p q (inl d) (inl e) = d .1 ∙ sym (e .1)
 one-place line p q (inl d) (inr e) = absurd (omega (arith, d .0, e .0))
 one-place line p q (inr d) (inl e) = absurd (omega (arith, d .0, e .0))
-one-place line p q (inr d) (inr e) = same-astray (cut line) (length line) p q (d .1) (e .1)
+one-place line p q (inr d) (inr e) = same-no-form (cut line) (length line) p q (d .1) (e .1)
 
 -- fields that are as they should be depart nowhere
 never-departs : (vs : List Content) (ns : List Name) (m here end p : ℕ) → Filled vs ns m → Departs (field-texts vs ns) ns m here end p → ⊥
@@ -63,16 +63,16 @@ never-departs (v ∷ vs) [] m here end p f d = f
 never-departs (v ∷ vs) (n ∷ ns) m here end p f (inl d) = never-departs vs ns (m - 1) (here + length (field-text n v) + 1) end p (f .1) (d .1)
 never-departs (v ∷ vs) (n ∷ ns) m here end p f (inr d) = d .0 (v, f .0, refl)
 
-never-astray : (s : Said) (end p : ℕ) → Filled (s .contents) (names (s .word)) (length (required (s .word))) → Astray (head (s .word) ∷ field-texts (s .contents) (names (s .word))) end p → ⊥
-never-astray s end p f (inl d) = d .0 (s .word) refl
-never-astray s end p f (inr d) =
+never-no-form : (s : Said) (end p : ℕ) → Filled (s .contents) (names (s .word)) (length (required (s .word))) → NoForm (head (s .word) ∷ field-texts (s .contents) (names (s .word))) end p → ⊥
+never-no-form s end p f (inl d) = d .0 (s .word) refl
+never-no-form s end p f (inr d) =
     let w = same-word (d .0) (s .word) (sym (d .1)) in
     never-departs (s .contents) (names (s .word)) (length (required (s .word))) (length (head (s .word)) + 1) end p f
     (subst (λ u. Departs (field-texts (s .contents) (names (s .word))) (names u) (length (required u)) (length (head (s .word)) + 1) end p) w (d .2))
 
 never-both : (line : List ℕ) (s : Said) (p : ℕ) → Says line s → NotOfForm line p → ⊥
 never-both line s p h (inl d) = omega (arith, d .0, h .sayable .short, ap length (h .whole))
-never-both line s p h (inr d) = never-astray s (length line) p (h .sayable .filled) (subst (λ l. Astray l (length line) p) (cut-said line s h) (d .1))
+never-both line s p h (inr d) = never-no-form s (length line) p (h .sayable .filled) (subst (λ l. NoForm l (length line) p) (cut-said line s h) (d .1))
 
 pub decided : (line : List ℕ) → Decided line
 decided line = record { one-saying = one-saying line; one-place = one-place line; never-both = never-both line; cut-apart = cut-apart line }

@@ -20,7 +20,7 @@ use Rattle.logline.specs.declared.fields.Field.{Field}
 use Rattle.logline.specs.Forms.{head, names, required, label}
 use Rattle.logline.specs.Pieces.{spaced, cut}
 use Rattle.logline.specs.Events.{Content, Filled, field-text, field-texts, saying, text, Says}
-use Rattle.logline.specs.Refusals.{IsField, Departs, Astray}
+use Rattle.logline.specs.Refusals.{IsField, Departs, NoForm}
 use Rattle.logline.specs.Fields.{content-of, value-bytes, Part, Parts, FieldsOf, Found}
 use Rattle.logline.specs.Steps.{rest-bytes, rest-pieces, ReadFrom, rest-place, Ends, TakenFrom}
 use Rattle.logline.proofs.Cutting.{cut-some, cut-apart}
@@ -153,7 +153,7 @@ module _ (line first : List ℕ) (rest : Option (RefT (List ℕ))) (w : Word) (w
   pub line-refused : (list : List Field) (f : LineFault) → TakenFrom line rest w list (Err f) → Found line list (Err f)
   line-refused list (Room k) t = t
   line-refused list (Form q) t =
-      inr (short, subst (λ l. Astray l (length line) q) (sym pieces) (inr (w, given, subst (λ k. Departs (rest-pieces rest) (names w) (length (required w)) k (length line) q) (line-place ∙ ap (λ l. length l + 1) (sym given)) t)))
+      inr (short, subst (λ l. NoForm l (length line) q) (sym pieces) (inr (w, given, subst (λ k. Departs (rest-pieces rest) (names w) (length (required w)) k (length line) q) (line-place ∙ ap (λ l. length l + 1) (sym given)) t)))
 
 parts-few : (line : List ℕ) (fs : List Field) (ns : List Name) (here : ℕ) → Parts line fs ns here → length fs ≤ length ns
 parts-few line [] ns here h = omega arith

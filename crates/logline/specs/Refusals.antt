@@ -22,10 +22,10 @@ Departs (p ∷ ps) [] m here end place = place ≡ here
 Departs (p ∷ ps) (n ∷ ns) m here end place = (IsField n p × Departs ps ns (m - 1) (here + length p + 1) end place) ⊎ ((IsField n p → ⊥) × (place ≡ here))
 
 -- the first piece gives no word, at place 0; or it gives one, and the others depart from the fields of that word
-abbrev pub Astray : List (List ℕ) → (end place : ℕ) → Type 0
-Astray [] end place = ⊥
-Astray (p ∷ ps) end place = (((w : Word) → p ≡ head w → ⊥) × (place ≡ 0)) ⊎ ((w : Word) × (p ≡ head w) × Departs ps (names w) (length (required w)) (length p + 1) end place)
+abbrev pub NoForm : List (List ℕ) → (end place : ℕ) → Type 0
+NoForm [] end place = ⊥
+NoForm (p ∷ ps) end place = (((w : Word) → p ≡ head w → ⊥) × (place ≡ 0)) ⊎ ((w : Word) × (p ≡ head w) × Departs ps (names w) (length (required w)) (length p + 1) end place)
 
 -- the line is not of any form, at this place
 abbrev pub NotOfForm : List ℕ → ℕ → Type 0
-NotOfForm line place = ((96 < length line) × (place ≡ 96)) ⊎ ((length line ≤ 96) × Astray (cut line) (length line) place)
+NotOfForm line place = ((96 < length line) × (place ≡ 96)) ⊎ ((length line ≤ 96) × NoForm (cut line) (length line) place)

@@ -91,6 +91,68 @@ fn refused(heap: Global, fault: LineFault) -> Result<String, AllocError> {
     }
 }
 
+// What a line is answered: two lines for one that is read, else one.
+fn answer(heap: Global, line: &[u8]) -> Result<Vec<u8>, AllocError> {
+    let mut reply = Vec::new(heap);
+    match read(line) {
+        Err(fault) => reply.extend_from_slice(refused(heap, fault)?.as_bytes())?,
+        Ok(event) => {
+            reply.extend_from_slice(described(heap, event)?.as_bytes())?;
+            reply.extend_from_slice(places(heap, line)?.as_bytes())?;
+            reply.extend_from_slice(b"\n")?;
+            reply.extend_from_slice(written(heap, event, LONGEST, false)?.as_slice())?;
+        }
+    }
+    reply.extend_from_slice(b"\n")?;
+    Ok(reply)
+}
+
+// What writing into so many places answers: the bytes written, or with `all` the answer and what every place then holds.
+fn written(heap: Global, event: Event, places: usize, all: bool) -> Result<Vec<u8>, AllocError> {
+    let mut out = vec![in heap; b'.'; places]?;
+    let answer = write(&event, out.as_mut_slice());
+    let mut reply = Vec::new(heap);
+    match answer {
+        Err(fault) => reply.extend_from_slice(refused(heap, fault)?.as_bytes())?,
+        Ok(n) => {
+            if all {
+                reply.extend_from_slice(format!(heap, "length={n}")?.as_bytes())?;
+            } else {
+                out.truncate(n);
+            }
+        }
+    }
+    if all {
+        reply.extend_from_slice(b"\n")?;
+    }
+    reply.extend_from_slice(out.as_slice())?;
+    Ok(reply)
+}
+
+// Events written into more, enough and too few places, with a blank in the serial, and too long by one byte.
+fn trials(heap: Global) -> Result<Vec<u8>, AllocError> {
+    let mut reply = Vec::new(heap);
+    let long = [b'A'; 84];
+    let one = Event::Enrol { cab: b"A" };
+    let blank = Event::Play { cab: b"A B", t: 1 };
+    for places in [0, 95, 96, 97] {
+        reply.extend_from_slice(written(heap, one, places, true)?.as_slice())?;
+        reply.extend_from_slice(b"\n")?;
+        reply.extend_from_slice(written(heap, blank, places, true)?.as_slice())?;
+        reply.extend_from_slice(b"\n")?;
+    }
+    reply.extend_from_slice(written(
+        heap,
+        Event::Enrol { cab: &long[0..83] },
+        96,
+        true,
+    )?.as_slice())?;
+    reply.extend_from_slice(b"\n")?;
+    reply.extend_from_slice(written(heap, Event::Enrol { cab: &long }, 96, true)?.as_slice())?;
+    reply.extend_from_slice(b"\n")?;
+    Ok(reply)
+}
+
 fn run(rt: &LibcRuntime) -> Result<(), AnyError> {
     let heap = rt.alloc();
     let mut input = BufReader::new(rt.stdin());
@@ -101,26 +163,9 @@ fn run(rt: &LibcRuntime) -> Result<(), AnyError> {
         if input.read_until(b'\n', &mut bytes)? == 0 {
             break;
         }
-        let line = bare(bytes.as_slice());
-        match read(line) {
-            Err(fault) => output.write_all(refused(heap, fault)?.as_bytes())?,
-            Ok(event) => {
-                output.write_all(described(heap, event)?.as_bytes())?;
-                output.write_all(places(heap, line)?.as_bytes())?;
-                output.write_all(b"\n")?;
-                let mut again = [b'?'; LONGEST];
-                match write(&event, &mut again) {
-                    Err(fault) => output.write_all(refused(heap, fault)?.as_bytes())?,
-                    Ok(n) => {
-                        if n <= LONGEST {
-                            output.write_all(&again[0..n])?;
-                        }
-                    }
-                }
-            }
-        }
-        output.write_all(b"\n")?;
+        output.write_all(answer(heap, bare(bytes.as_slice()))?.as_slice())?;
     }
+    output.write_all(trials(heap)?.as_slice())?;
     output.flush()?;
     Ok(())
 }
