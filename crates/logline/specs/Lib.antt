@@ -1,0 +1,9 @@
+pub mod Faults
+pub mod Forms
+pub mod Pieces
+pub mod Events
+pub mod Refusals
+pub mod Fields
+pub mod Reading
+pub mod Writing
+pub mod Steps
