@@ -1,1 +1,4 @@
 pub mod Registers
+pub mod Turning
+pub mod Enrolling
+pub mod Opened

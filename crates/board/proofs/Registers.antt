@@ -1,7 +1,8 @@
 -- Serial bytes, and the key of a serial among records.
 use Prim.Native.Nat.{ℕ, zero, suc, _+_, _≤_, _<_}
 use mathlib.Core.Path.{_≡_, refl, sym, ap, _∙_}
-use mathlib.Core.Bool.{Bool, true, false, cond}
+use mathlib.Core.Bool.{Bool, true, false, cond, not}
+use lib.Dec.{leb}
 use mathlib.Core.List.{List, [], _∷_}
 use native.Mathlib.Omega.{arith}
 use native.Mathlib.Numerals.{one-add}
@@ -9,12 +10,17 @@ use lib.ListN.{length, getD, take}
 use Rattle.std.specs.Orderings.{Decides}
 use Rattle.std.specs.shelf.Lists.{All}
 use Rattle.std.proofs.shelf.Elements.{all-getD, all-from-getD}
-use Rattle.std.proofs.shelf.Tests.{cases-bool, both-ways, cond-true, cond-false}
+use Rattle.std.proofs.shelf.Tests.{both-ways, cond-true, cond-false, lt-leb, le-leb, not-from-true}
 use Rattle.std.proofs.shelf.Ways.{decides-by-and}
 use Rattle.daybook.specs.Book.{Serial, same-bytes, key-in}
 use Rattle.std.proofs.shelf.Lists.{length-map, length-take, getD-map, getD-take}
 use Rattle.board.specs.declared.records.Record.{Record}
-use Rattle.board.specs.Serials.{is-serial-byte, all-serial-bytes, serials-of}
+use Rattle.board.specs.Serials.{is-serial-byte, all-serial-bytes, is-serial, record-of, serials-of}
+use Rattle.board.specs.Causes.{known-causes}
+use Rattle.board.specs.Outcomes.{KeyUnless}
+use Rattle.board.specs.declared.faults.Refusal.the-variants.{NotEnrolled}
+use Rattle.std.specs.declared.option.Option.the-variants.{Some, None}
+use Rattle.std.specs.declared.result.Result.the-variants.{Ok, Err}
 
 bytes-decide : (bytes : List ℕ) → Decides (all-serial-bytes bytes) (All (λ b. is-serial-byte b ≡ true) bytes)
 bytes-decide bytes = decides-by-and is-serial-byte (λ b. is-serial-byte b ≡ true) all-serial-bytes (λ b. ((λ e. e), (λ e. e))) refl (λ _ _. refl) bytes
@@ -48,6 +54,43 @@ key-none (e ∷ es) s h =
 pub serials-number : (enrolled : ℕ) (records : List Record) → enrolled ≤ length records → length (serials-of enrolled records) ≡ enrolled
 serials-number enrolled records h = omega (arith, length-map (take enrolled records) (λ (r : Record). r .serial), length-take enrolled records)
 
+-- no more serials than are enrolled
+pub serials-few : (enrolled : ℕ) (records : List Record) → length (serials-of enrolled records) ≤ enrolled
+serials-few enrolled records = omega (arith, length-map (take enrolled records) (λ (r : Record). r .serial), length-take enrolled records)
+
 pub serial-at : (enrolled : ℕ) (records : List Record) (i : ℕ) (r : Record) → i < enrolled → enrolled ≤ length records → getD (serials-of enrolled records) i [] ≡ getD records i r .serial
 serial-at enrolled records i r l h =
     getD-map (λ r. r .serial) (take enrolled records) i r [] (omega (arith, length-take enrolled records)) ∙ ap (λ x. x .serial) (getD-take enrolled records i r l)
+
+-- what was read as a record is a serial, and the record holds its bytes
+pub read-as : (bytes : List ℕ) (rec : Record) → Some rec ≡ record-of bytes → (is-serial bytes ≡ true) × (rec .serial ≡ bytes)
+read-as bytes rec e = go (is-serial bytes) refl
+  where
+    go : (b : Bool) → is-serial bytes ≡ b → (is-serial bytes ≡ true) × (rec .serial ≡ bytes)
+    go true h =
+        let same : Some rec ≡ Some (record { serial = bytes }) = e ∙ cond-true (is-serial bytes) (Some (record { serial = bytes })) None h in
+        let inner : rec ≡ record { serial = bytes } = cc in
+        (h, ap (λ r. r .serial) inner)
+    go false h =
+        let none : Some rec ≡ None = e ∙ cond-false (is-serial bytes) (Some (record { serial = bytes })) None h in
+        let z : _≡_ {A = ℕ} 0 1 = cc in
+        absurd (omega arith)
+
+-- a serial is found among the enrolled ones, or not
+module _ (es : List Serial) (bytes : List ℕ) (rec : Record) (key : ℕ) (read : Some rec ≡ record-of bytes) (found : key ≡ key-in es (rec .serial)) where
+  own-key : key ≡ key-in es bytes
+  own-key = found ∙ ap (key-in es) (read-as bytes rec read .1)
+
+  pub found-known : key < length es → KeyUnless (known-causes es bytes) es bytes (Ok key)
+  found-known h =
+      let e = own-key in
+      let serial = read-as bytes rec read .0 in
+      let inside : leb (length es) (key-in es bytes) ≡ false = lt-leb (length es) (key-in es bytes) (omega arith) in
+      (cond-false (not (is-serial bytes)) (Some (5, [])) (cond (leb (length es) (key-in es bytes)) (Some (8, [])) None) (not-from-true (is-serial bytes) serial) ∙ cond-false (leb (length es) (key-in es bytes)) (Some (8, [])) None inside, e, h)
+
+  pub found-unknown : length es ≤ key → KeyUnless (known-causes es bytes) es bytes (Err NotEnrolled)
+  found-unknown h =
+      let e = own-key in
+      let serial = read-as bytes rec read .0 in
+      let outside : leb (length es) (key-in es bytes) ≡ true = le-leb (length es) (key-in es bytes) (omega arith) in
+      cond-false (not (is-serial bytes)) (Some (5, [])) (cond (leb (length es) (key-in es bytes)) (Some (8, [])) None) (not-from-true (is-serial bytes) serial) ∙ cond-true (leb (length es) (key-in es bytes)) (Some (8, [])) None outside

@@ -1,3 +1,10 @@
-// The parts that a board's calls stand on: its refusals, and the records of its register.
+// A board: its calls, their refusals, and the law of the day book.
+mod asks;
+mod checks;
+mod enrols;
 pub mod faults;
+pub mod held;
+pub mod openings;
+mod opens;
+mod plays;
 pub mod records;

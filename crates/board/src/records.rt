@@ -50,12 +50,12 @@ fn is_same(a: &Record, b: &Record) -> bool
 }
 
 // The key of a serial among the first records: how many stand before it.
-pub fn key_of(records: &[Record], enrolled: usize, sought: &Record) -> usize
+pub fn key_of(records: &[Record], enrolled: u32, sought: &Record) -> u32
     requires within { ⌜ enrolled ≤ length (now records) ⌝ }
     ensures key { λ r. ⌜ r ≡ key-in (serials-of enrolled (now (records .entry))) (now (sought .entry) .serial) ⌝ }
 {
     for i in 0..enrolled {
-        if is_same(&records[i], sought) {
+        if is_same(&records[i as usize], sought) {
             return i;
         }
     }

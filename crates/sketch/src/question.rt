@@ -7,6 +7,7 @@ use crate::shape::Sketch;
 use window::Counter;
 
 // At time t over span v, with so many keys enrolled. There are as many cells as the sketch has.
+#[derive(Drop)]
 pub struct Question<'a, C: Counter> {
     pub sketch: &'a Sketch,
     pub cells: &'a [C],
