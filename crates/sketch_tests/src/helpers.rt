@@ -182,7 +182,7 @@ fn scrambled(x: u32) -> u32 {
 }
 
 // Tells plays of 8 keys to exact cells and to others, and asks both for key ranges: the exact
-// number lies between the estimates of the others.
+// number lies between the estimates of the others, and is not always one of them.
 pub fn compare_run<C: Counter>(
     exact: &Sketch,
     exact_cells: &mut [Ring],
@@ -196,6 +196,7 @@ pub fn compare_run<C: Counter>(
 {
     let mut x: u32 = 1;
     let mut t: u32 = 0;
+    let mut sums: (u64, u64, u64) = (0, 0, 0);
     for _ in 0..400 {
         x = scrambled(x);
         t = t.saturating_add(x % 3);
@@ -214,6 +215,9 @@ pub fn compare_run<C: Counter>(
         check_eq(live, same)?;
         check(low <= live)?;
         check(live <= high)?;
+        sums.0 = sums.0.saturating_add(low);
+        sums.1 = sums.1.saturating_add(live);
+        sums.2 = sums.2.saturating_add(high);
     }
-    Ok(())
+    check(sums.0 < sums.1 && sums.1 < sums.2)
 }
