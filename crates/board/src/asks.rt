@@ -17,7 +17,12 @@ use window::Counter;
 
 impl Board {
     // The question at t over v.
-    pub(crate) fn question<'a, C: Counter>(&'a self, cells: &'a [C], t: u32, v: u32) -> Question<'a, C>
+    pub(crate) fn question<'a, C: Counter>(
+        &'a self,
+        cells: &'a [C],
+        t: u32,
+        v: u32,
+    ) -> Question<'a, C>
         requires sized { ⌜ length (now cells) ≡ cell-number (shape-of (now self .sketch)) ⌝ }
         ensures sketch { λ r. ⌜ now (r .sketch) ≡ now (self .entry) .sketch ⌝ }
         ensures cells { λ r. ⌜ now (r .cells) ≡ now (cells .entry) ⌝ }
@@ -35,7 +40,7 @@ impl Board {
     }
 
     // The low and high of the keys from first to last at t over v.
-    pub fn range<'a, C: Counter>(
+    pub(crate) fn range<'a, C: Counter>(
         &'a self,
         cells: &'a [C],
         register: &[Record],
@@ -51,7 +56,7 @@ impl Board {
     }
 
     // The low and high of one enrolled cabinet at t over v: those of its key.
-    pub fn ask<'a, C: Counter>(
+    pub(crate) fn ask<'a, C: Counter>(
         &'a self,
         cells: &'a [C],
         register: &[Record],

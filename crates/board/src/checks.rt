@@ -95,7 +95,15 @@ impl Board {
     }
 
     // Whether a question about a key range is answered.
-    pub(crate) fn may_range(&self, cells: usize, records: usize, first: u32, last: u32, t: u32, v: u32) -> Result<(), Refusal>
+    pub(crate) fn may_range(
+        &self,
+        cells: usize,
+        records: usize,
+        first: u32,
+        last: u32,
+        t: u32,
+        v: u32,
+    ) -> Result<(), Refusal>
         ensures tested { λ r. ⌜ Tested (range-causes (now (self .entry)) cells records first last t v) r ⌝ }
     {
         self.ready(cells, records)?;
@@ -123,7 +131,14 @@ impl Board {
     }
 
     // Whether a question about a cabinet is answered: its key.
-    pub(crate) fn may_ask(&self, cells: usize, register: &[Record], serial: &[u8], t: u32, v: u32) -> Result<u32, Refusal>
+    pub(crate) fn may_ask(
+        &self,
+        cells: usize,
+        register: &[Record],
+        serial: &[u8],
+        t: u32,
+        v: u32,
+    ) -> Result<u32, Refusal>
         ensures known { λ r. ⌜ KeyUnless (ask-causes (now (self .entry)) cells (now (register .entry)) (now (serial .entry)) t v) (serials-of (now (self .entry) .enrolled) (now (register .entry))) (now (serial .entry)) r ⌝ }
     {
         self.ready(cells, register.len())?;
@@ -131,7 +146,13 @@ impl Board {
     }
 
     // Whether a play is taken, but for the cells: the cabinet's key.
-    pub(crate) fn may_play(&self, cells: usize, register: &[Record], serial: &[u8], t: u32) -> Result<u32, Refusal>
+    pub(crate) fn may_play(
+        &self,
+        cells: usize,
+        register: &[Record],
+        serial: &[u8],
+        t: u32,
+    ) -> Result<u32, Refusal>
         ensures known { λ r. ⌜ KeyUnless (play-causes (now (self .entry)) cells (now (register .entry)) (now (serial .entry)) t) (serials-of (now (self .entry) .enrolled) (now (register .entry))) (now (serial .entry)) r ⌝ }
     {
         self.ready(cells, register.len())?;

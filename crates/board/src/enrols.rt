@@ -43,7 +43,12 @@ impl Board {
     }
 
     // Adds a serial and gives its key, the number enrolled before it.
-    pub fn enrol<C: Counter>(&mut self, cells: &[C], register: &mut [Record], serial: &[u8]) -> Result<u32, Fault>
+    pub(crate) fn enrol<C: Counter>(
+        &mut self,
+        cells: &[C],
+        register: &mut [Record],
+        serial: &[u8],
+    ) -> Result<u32, Fault>
         ensures enrolled { λ r. ⌜ Outcome (enrol-causes (now (self .entry)) (length (now (cells .entry))) (now (register .entry)) (now (serial .entry))) ((now (self .exit) ≡ now (self .entry)) × (now (register .exit) ≡ now (register .entry))) (EnrolAnswer (now (self .entry)) (now (self .exit)) (now (cells .entry)) (now (register .entry)) (now (register .exit)) (now (serial .entry))) r ⌝ }
     {
         let record = self.may_enrol(cells.len(), register, serial)?;

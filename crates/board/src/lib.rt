@@ -1,4 +1,4 @@
-// A board: its calls, their refusals, and the law of the day book.
+// The parts that the calls on a board stand on. None of the calls can be made from outside yet: they come together.
 mod asks;
 mod checks;
 mod enrols;

@@ -70,7 +70,9 @@ fn may_open(asked: Dimensions, words: &[u16], cells: usize, records: usize) -> R
     }
     let place = first_wide(words, 1 << asked.spread);
     if place < words.len() {
-        return Err(Refusal::WideWord { place: place as u32 });
+        return Err(Refusal::WideWord {
+            place: place as u32,
+        });
     }
     Ok(())
 }

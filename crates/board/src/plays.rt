@@ -12,7 +12,7 @@ use window::Counter;
 
 impl Board {
     // Gives stamp t to the cell of the cabinet's node in every level and row, and answers how many plays were accepted.
-    pub fn play<C: Counter>(
+    pub(crate) fn play<C: Counter>(
         &mut self,
         cells: &mut [C],
         register: &[Record],

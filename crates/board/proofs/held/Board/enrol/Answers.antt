@@ -17,11 +17,14 @@ returns g c =
     let many = serials-number (self .enrolled) records (omega (arith, left .0, left .1)) in
     let put = ap (set records (self .enrolled)) (fresh .1) in
     record {
-      enrolled = (fresh .0, record {
-        answer = refl;
-        step = record { room = omega (arith, many, left .0); shape = refl; cells = refl; register = ap (serials-of (self .enrolled + 1)) put ∙ serials-more (self .enrolled) records bytes (omega (arith, left .0, left .1)); clock = refl; accepted = refl };
-        register = put;
-        opened = refl;
-        sketch = refl;
-      });
+      enrolled = (
+        fresh .0,
+        record {
+          answer = refl;
+          step = record { room = omega (arith, many, left .0); shape = refl; cells = refl; register = ap (serials-of (self .enrolled + 1)) put ∙ serials-more (self .enrolled) records bytes (omega (arith, left .0, left .1)); clock = refl; accepted = refl };
+          register = put;
+          opened = refl;
+          sketch = refl;
+        },
+      );
     }
