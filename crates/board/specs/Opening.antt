@@ -1,5 +1,5 @@
 -- Opening a board.
-use Prim.Native.Nat.{ℕ, _+_, _-_, _*_, _^_, _<_}
+use Prim.Native.Nat.{ℕ, _+_, _-_, _*_, _^_, _≤_, _<_}
 use mathlib.Core.Path.{_≡_}
 use mathlib.Core.Bool.{Bool, true, not, _&&_, _||_}
 use mathlib.Core.List.{List, [], _∷_, _++_}
@@ -35,6 +35,18 @@ first-wide width words = leading (λ x. ltb x width) words
 abbrev pub open-causes : Dimensions → List ℕ → (cells records : ℕ) → List Cause
 open-causes a words cells records =
     ((2, []), not (in-range a)) ∷ (((3, []), not (is-sized a (length words) cells records)) ∷ (((4, first-wide (2 ^ a .spread) words ∷ []), ltb (first-wide (2 ^ a .spread) words) (length words)) ∷ []))
+
+-- shape numbers in their ranges, with few enough words, each of which is a column
+pub record Fits (a : Dimensions) (given : List ℕ) : Type 0 where
+  pub some-window : 0 < a .window
+  pub some-fineness : 0 < a .fineness
+  pub fineness : a .fineness ≤ 6
+  pub bits : a .bits ≤ 10
+  pub some-row : 0 < a .rows
+  pub rows : a .rows ≤ 4
+  pub spread : a .spread ≤ 8
+  pub few : length given ≤ 440
+  pub narrow : (p : ℕ) → getD given p 0 < 2 ^ a .spread
 
 -- a sketch with these shape numbers and its own copy of the words
 pub record SketchOf (a : Dimensions) (given : List ℕ) (s : Sketch) : Type 0 where

@@ -7,7 +7,7 @@ ghost use lib.ListN.{length, replicate, getD};
 ghost use Rattle.window.specs.Meaning.{Fresh};
 ghost use Rattle.board.specs.Causes.{Tested};
 ghost use Rattle.board.specs.Outcomes.{Outcome};
-ghost use Rattle.board.specs.Opening.{in-range, is-sized, first-wide, open-causes, SketchOf, OpenAnswer};
+ghost use Rattle.board.specs.Opening.{Fits, in-range, is-sized, first-wide, open-causes, SketchOf, OpenAnswer};
 ghost use Rattle.board.specs.declared.records.Record.{Record as OneRecord};
 use crate::faults::Fault;
 use crate::faults::Refusal;
@@ -85,6 +85,21 @@ fn own_words(words: &[u16]) -> [u16; 440]
     let mut own = [0u16; 440];
     own[0..words.len()].copy_from_slice(words);
     own
+}
+
+// The sketch of these numbers and words.
+fn sketch_of(asked: Dimensions, words: &[u16]) -> Sketch
+    requires fits { ⌜ Fits asked (now words) ⌝ }
+    ensures made { λ r. ⌜ SketchOf asked (now (words .entry)) r ⌝ }
+{
+    Sketch {
+        window: asked.window,
+        fineness: asked.fineness as u8,
+        bits: asked.bits,
+        rows: asked.rows,
+        spread: asked.spread,
+        words: own_words(words),
+    }
 }
 
 // Makes every cell new.
