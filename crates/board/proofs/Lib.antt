@@ -2,3 +2,4 @@ pub mod Registers
 pub mod Turning
 pub mod Enrolling
 pub mod Opened
+pub mod Beginning

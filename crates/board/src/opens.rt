@@ -119,3 +119,29 @@ fn empty(register: &mut [Record])
         *record = Record { serial: [0; 16] };
     }
 }
+
+impl Board {
+    // Opens the board anew: every cell is new, and the register is empty. Answers the number of cells.
+    pub(crate) fn open<C: Counter>(
+        &mut self,
+        asked: Dimensions,
+        words: &[u16],
+        cells: &mut [C],
+        register: &mut [Record],
+    ) -> Result<u32, Fault>
+        ensures opened { λ r. ⌜ Outcome (open-causes asked (now (words .entry)) (length (now (cells .entry))) (length (now (register .entry)))) ((now (self .exit) ≡ now (self .entry)) × (now (cells .exit) ≡ now (cells .entry)) × (now (register .exit) ≡ now (register .entry))) (OpenAnswer (C·Counter .model) asked (now (words .entry)) (now (self .exit)) (now (cells .exit)) (now (register .exit))) r ⌝ }
+    {
+        may_open(asked, words, cells.len(), register.len())?;
+        let sketch = sketch_of(asked, words);
+        renew(cells, asked.window, asked.fineness as u8);
+        empty(register);
+        *self = Board {
+            opened: true,
+            sketch,
+            enrolled: 0,
+            clock: 0,
+            accepted: 0,
+        };
+        Ok(cells.len() as u32)
+    }
+}
