@@ -1,6 +1,6 @@
 -- Where stamps never rise, dropping dead ones from the old end leaves the live ones.
-use Rattle.std.proofs.Common.{◌≡◌, ℕ, zero, suc, ◌+◌, ◌-◌, ◌<◌, ◌≤◌, Bool, true, false, ◌⊎◌, List, [], ◌∷◌, ◌++◌, map, length, get_or, take, set, filter, sym, refl, ap, ◌∙◌, subst, ⊎_elim, arith}
-use Rattle.std.specs.List.{AllByRecursion as All}
+use Rattle.std.proofs.Common.{◌≡◌, ℕ, zero, suc, ◌+◌, ◌-◌, ◌<◌, ◌≤◌, Bool, true, false, List, [], ◌∷◌, ◌++◌, map, length, get_or, take, set, filter, sym, refl, ap, ◌∙◌, subst, ⊎_elim, arith}
+use Rattle.std.specs.List.{AllByRecursion}
 use Rattle.std.proofs.lemmas.List.{append-nil, take-take, length-set, get_or-set_same, get_or-set_other, get_or_default}
 use Rattle.std.proofs.lemmas.List.Elements.{filter_more}
 use Rattle.std.proofs.ByRecursion.{All-get_or, All-from_get_or}
@@ -107,13 +107,13 @@ dropped_more t v start now i e l r inside stamps fewer trimmed =
     }
 
 -- levels keep their places
-pub dropped_places : (t v : ℕ) (start now : List Level) (i : ℕ) → Dropped t v start now i → All Places start → All Places now
+pub dropped_places : (t v : ℕ) (start now : List Level) (i : ℕ) → Dropped t v start now i → AllByRecursion Places start → AllByRecursion Places now
 dropped_places t v start now i r places =
     let d : Level = record { number = 0; stamps = [] } in
     All-from_get_or Places now d (λ k h. let p = All-get_or Places start k d (omega (arith, r.long)) places in
     (ap length (r.stamps k d) ∙ p.0, omega (arith, r.fewer k d, p.1)))
 
-pub dropped_few : (t v : ℕ) (start now : List Level) (i : ℕ) → Dropped t v start now i → (n : ℕ) → All (λ (l : Level). l.number ≤ n) start → All (λ (l : Level). l.number ≤ n) now
+pub dropped_few : (t v : ℕ) (start now : List Level) (i : ℕ) → Dropped t v start now i → (n : ℕ) → AllByRecursion (λ (l : Level). l.number ≤ n) start → AllByRecursion (λ (l : Level). l.number ≤ n) now
 dropped_few t v start now i r n few =
     let d : Level = record { number = 0; stamps = [] } in
     All-from_get_or (λ (l : Level). l.number ≤ n) now d (λ k h. omega (arith, r.fewer k d, All-get_or (λ (l : Level). l.number ≤ n) start k d (omega (arith, r.long)) few))

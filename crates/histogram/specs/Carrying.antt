@@ -1,7 +1,7 @@
 -- An arrival carried through the levels is the arrival settled among the buckets.
 use Rattle.std.specs.Prelude.{◌≡◌, ℕ, zero, suc, ◌+◌, ◌*◌, ◌^◌, ◌<◌, ◌≤◌, List, [], ◌∷◌, ◌++◌, map, length, get_or, take, drop, Some, None, slice_index, slice_index_or, slice_set, refl}
 use Rattle.std.proofs.Common.{sym, ap, subst, ◌∙◌, arith, add-one}
-use Rattle.std.specs.List.{AllByRecursion as All}
+use Rattle.std.specs.List.{AllByRecursion}
 use Rattle.std.proofs.lemmas.List.{append-nil, append_assoc, drop_more, drop-drop, drop-set-lt, length-set, length-take-le, take_more_set, set_split, get_or-drop}
 use Rattle.std.proofs.ByRecursion.{All-set, All-get_or}
 use Rattle.histogram.specs.declared.levels.Level.{Level}
@@ -73,7 +73,7 @@ total_two s (x ∷ (y ∷ xs)) h = omega arith
 pub record Carried (m t : ℕ) (start now : List Level) (j a : ℕ) : Type 0 where
   pub rest : drop j now ≡ drop j start
   pub long : length now ≡ length start
-  pub places : All Places now
+  pub places : AllByRecursion Places now
   pub same : settle m 1 (bucket 1 t) (buckets_from 1 start) ≡ buckets_from 1 (take j now) ++ settle m 1 (bucket (2 ^ j) a) (buckets_from (2 ^ j) (drop j start))
   pub sum : total (buckets_from (2 ^ j) (drop j start)) + 2 * 2 ^ j ≤ total (buckets_from 1 start) + 2
 

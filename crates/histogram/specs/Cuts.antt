@@ -1,7 +1,7 @@
 -- Arrivals, newest first, cut into buckets: what is live lies between low and high, and an arrival keeps the cuts.
 use Rattle.std.specs.Prelude.{◌≡◌, ℕ, zero, suc, ◌+◌, ◌*◌, ◌<◌, ◌≤◌, true, false, ◌&&◌, List, [], ◌∷◌, length, take, drop, ◌==◌, nat_le, refl}
 use Rattle.std.proofs.Common.{sym, ap, subst, ◌∙◌, ⊎_elim, arith}
-use Rattle.std.specs.List.{AllByRecursion as All}
+use Rattle.std.specs.List.{AllByRecursion}
 use Rattle.std.proofs.ByRecursion.{kept_by_passes}
 use Rattle.std.proofs.lemmas.Bool.Decides.{nat_tests}
 use Rattle.std.proofs.lemmas.List.{length-take, length-drop, drop-drop}
@@ -199,16 +199,16 @@ cut_settle t w m n h (b ∷ bs) ys c =
     (λ _. c)
 
 -- what an arrival leaves is live
-settle_all : (P : ℕ → Type 0) (m n : ℕ) (h : Bucket) (bs : List Bucket) → P h.stamp → All (λ b. P b.stamp) bs → All (λ b. P b.stamp) (settle m n h bs)
+settle_all : (P : ℕ → Type 0) (m n : ℕ) (h : Bucket) (bs : List Bucket) → P h.stamp → AllByRecursion (λ b. P b.stamp) bs → AllByRecursion (λ b. P b.stamp) (settle m n h bs)
 settle_all P m n h [] e a = (e, tt)
 settle_all P m n h (b ∷ bs) e a =
-    cond_both (b.size == h.size) _ _ (All (λ d. P d.stamp))
-    (λ _. cond_both (nat_le (m + 1) n) _ _ (All (λ d. P d.stamp))
+    cond_both (b.size == h.size) _ _ (AllByRecursion (λ d. P d.stamp))
+    (λ _. cond_both (nat_le (m + 1) n) _ _ (AllByRecursion (λ d. P d.stamp))
     (λ _. settle_all P m 1 (bucket (2 * h.size) h.stamp) bs e a.1)
     (λ _. (e, settle_all P m (n + 1) b bs a.0 a.1)))
     (λ _. (e, a))
 
-all_live_kept : (t v : ℕ) (bs : List Bucket) → All (λ b. is_live t v b.stamp ≡ true) bs → live_buckets t v bs ≡ bs
+all_live_kept : (t v : ℕ) (bs : List Bucket) → AllByRecursion (λ b. is_live t v b.stamp ≡ true) bs → live_buckets t v bs ≡ bs
 all_live_kept t v [] a = refl
 all_live_kept t v (b ∷ bs) a = live_first t v b bs a.0 ∙ ap (λ ls. b ∷ ls) (all_live_kept t v bs a.1)
 

@@ -2,7 +2,7 @@
 use Rattle.std.specs.Prelude.{◌≡◌, ℕ, suc, ◌+◌, ◌*◌, ◌^◌, ◌<◌, ◌≤◌, max, true, ◌&&◌, ◌||◌, List, [], ◌∷◌, ◌++◌, map, length, take, ◌==◌, ◌≢◌, nat_le, slice_index_or, refl}
 use Rattle.std.proofs.Common.{sym, ap, subst, ◌∙◌, ⊎_elim, arith}
 use Rattle.std.proofs.Math.Bool.{and_assoc}
-use Rattle.std.specs.List.{AllByRecursion as All}
+use Rattle.std.specs.List.{AllByRecursion}
 use Rattle.std.proofs.lemmas.List.{length-take-le}
 use Rattle.std.proofs.lemmas.List.Elements.{filter-append}
 use Rattle.std.proofs.lemmas.Bool.{and_parts, and_from, or_cases, or_left, or_right, leb-true, le-leb, eqb-true, eq-eqb, cases_eq}
@@ -63,7 +63,7 @@ none_after m s (l ∷ ls) some e =
     (λ (z : l.number ≡ 0 → ⊥). absurd (omega (arith, p.after z)))
     (cases_eq l.number 0)
 
-shaped_after : (m s k : ℕ) (ls : List Level) → 0 < m → All Places ls → filled m k ls ≡ true → Shaped m s k (buckets_from (2 * s) ls)
+shaped_after : (m s k : ℕ) (ls : List Level) → 0 < m → AllByRecursion Places ls → filled m k ls ≡ true → Shaped m s k (buckets_from (2 * s) ls)
 shaped_after m s k [] some places e = end
 shaped_after m s k (l ∷ ls) some places e =
     let p = filled_parts m k l ls e in
@@ -79,7 +79,7 @@ shaped_after m s k (l ∷ ls) some places e =
     (cases_eq l.number 0)
 
 -- levels that are filled as they may be hold buckets of the right sizes
-pub shaped_levels : (m : ℕ) (ls : List Level) → 0 < m → All Places ls → filled m m ls ≡ true → Shaped m 1 0 (buckets_from 1 ls)
+pub shaped_levels : (m : ℕ) (ls : List Level) → 0 < m → AllByRecursion Places ls → filled m m ls ≡ true → Shaped m 1 0 (buckets_from 1 ls)
 shaped_levels m [] some places e = end
 shaped_levels m (l ∷ ls) some places e =
     let p = filled_parts m m l ls e in
@@ -89,7 +89,7 @@ shaped_levels m (l ∷ ls) some places e =
     (subst (λ z. Shaped m 1 z (buckets_from 2 ls)) (sym n) (shaped_after m 1 l.number ls some places.1 p.rest))
 
 -- each level has m + 1 buckets at most
-pub levels_few : (m k : ℕ) (ls : List Level) → filled m k ls ≡ true → All (λ l. l.number ≤ m + 1) ls
+pub levels_few : (m k : ℕ) (ls : List Level) → filled m k ls ≡ true → AllByRecursion (λ l. l.number ≤ m + 1) ls
 levels_few m k [] e = tt
 levels_few m k (l ∷ ls) e = let p = filled_parts m k l ls e in (p.few, levels_few m l.number ls p.rest)
 
@@ -136,7 +136,7 @@ record Follows (m s k : ℕ) (ls : List Level) : Type 0 where
   before : 0 < largest (buckets_from s ls) → m ≤ k
   skipped : (j : ℕ) → s ≤ 2 ^ j → 2 ^ j < largest (buckets_from s ls) → m ≤ how_many (2 ^ j) (buckets_from s ls)
 
-filled_by : (m s i k : ℕ) (ls : List Level) → 0 < s → s ≡ 2 ^ i → All Places ls → Follows m s k ls → filled m k ls ≡ true
+filled_by : (m s i k : ℕ) (ls : List Level) → 0 < s → s ≡ 2 ^ i → AllByRecursion Places ls → Follows m s k ls → filled m k ls ≡ true
 filled_by m s i k [] pos power places f = refl
 filled_by m s i k (l ∷ ls) pos power places f =
     let rest : List Bucket = buckets_from (2 * s) ls in
@@ -159,7 +159,7 @@ filled_by m s i k (l ∷ ls) pos power places f =
     }))
 
 -- levels that hold sound buckets are filled as they may be
-pub sound_filled : (m last : ℕ) (ls : List Level) → All Places ls → SoundBuckets m last (buckets_from 1 ls) → filled m m ls ≡ true
+pub sound_filled : (m last : ℕ) (ls : List Level) → AllByRecursion Places ls → SoundBuckets m last (buckets_from 1 ls) → filled m m ls ≡ true
 sound_filled m last ls places s = filled_by m 1 0 m ls (omega arith) refl places (record {
   crowded = λ x h. s.no_size_crowded x;
   before = λ h. omega arith;

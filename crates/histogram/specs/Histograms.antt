@@ -1,6 +1,6 @@
 -- What a histogram holds, when it is sound, which arrival lists it stands for, and what an arrival leaves.
 use Rattle.std.specs.Prelude.{◌≡◌, ℕ, ◌+◌, ◌*◌, ◌≤◌, Bool, true, false, cond, ◌&&◌, ◌||◌, List, [], ◌∷◌, ◌++◌, map, reverse, length, take, drop, replicate, Some, None, Ok, Err, Option, Result, ◌==◌, nat_le, slice_index}
-use Rattle.std.specs.List.{AllByRecursion as All}
+use Rattle.std.specs.List.{AllByRecursion}
 use Rattle.window.specs.declared.CounterFault.{CounterFault}
 use Rattle.window.specs.Stamps.{live_count, ascending, newest_stamp}
 use Rattle.window.specs.Meaning.{Model}
@@ -54,7 +54,7 @@ pub record Sound (c : Histogram) : Type 0 where
   pub some_fineness : 1 ≤ c.fineness
   pub fineness_fits : c.fineness ≤ 6
   pub twelve_levels : length c.levels ≡ 12
-  pub seven_places : All Places c.levels
+  pub seven_places : AllByRecursion Places c.levels
   pub sound_buckets : SoundBuckets c.fineness c.last (buckets c)
 
 -- a window and a fineness in their ranges

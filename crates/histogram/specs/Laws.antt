@@ -1,7 +1,7 @@
 -- Histograms keep the rules of a window counter, and an arrival leaves a sound one sound.
 use Rattle.std.specs.Prelude.{◌≡◌, ℕ, zero, suc, ◌+◌, ◌-◌, ◌*◌, ◌<◌, ◌≤◌, true, false, List, [], ◌∷◌, ◌++◌, reverse, length, replicate, nat_le, refl}
 use Rattle.std.proofs.Common.{sym, ap, subst, ◌∙◌, ⊎_elim, arith, mul-zero}
-use Rattle.std.specs.List.{AllByRecursion as All}
+use Rattle.std.specs.List.{AllByRecursion}
 use Rattle.std.proofs.lemmas.List.{length_push, reverse-append}
 use Rattle.std.proofs.lemmas.Bool.{and_parts, and_from, le-leb, eqb-true, eq-eqb, cases_Bool, cond-false}
 use Rattle.window.specs.Stamps.{ascending, newest_stamp}
@@ -82,7 +82,7 @@ keeps = record {
 }
 
 -- levels without a bucket
-none_placed : (n : ℕ) → All Places (replicate n empty_level)
+none_placed : (n : ℕ) → AllByRecursion Places (replicate n empty_level)
 none_placed zero = tt
 none_placed (suc n) = ((refl, omega arith), none_placed n)
 
@@ -110,7 +110,7 @@ pub record Moves (c d : Histogram) (t : ℕ) : Type 0 where
   pub fineness : d.fineness ≡ c.fineness
   pub last : d.last ≡ t
   pub taken : d.taken ≡ c.taken + 1
-  pub levels : sound c ≡ true → (length d.levels ≡ 12) × All Places d.levels × (buckets d ≡ after_arrival c.fineness c.window t (buckets c))
+  pub levels : sound c ≡ true → (length d.levels ≡ 12) × AllByRecursion Places d.levels × (buckets d ≡ after_arrival c.fineness c.window t (buckets c))
   pub others : sound c ≡ false → d.levels ≡ c.levels
 
 stays_sound : (c d : Histogram) (t : ℕ) → c.last ≤ t → high_at c t c.window < 4095 → Moves c d t → sound c ≡ true → Sound d

@@ -1,7 +1,7 @@
 -- What is computed is what the rules say: sizes that may follow each other are sound ones, and settling merges.
 use Rattle.std.specs.Prelude.{◌≡◌, ℕ, ◌+◌, ◌*◌, ◌^◌, ◌<◌, ◌≤◌, true, cond, List, [], ◌∷◌, ◌++◌, ◌==◌, ◌≢◌, refl}
 use Rattle.std.proofs.Common.{sym, ap, subst, ◌∙◌, ⊎_elim, arith, add-one, pow-suc, mul_comm, pow_pos, pow_mono}
-use Rattle.std.specs.List.{AllByRecursion as All}
+use Rattle.std.specs.List.{AllByRecursion}
 use Rattle.std.proofs.lemmas.List.{append_assoc}
 use Rattle.std.proofs.lemmas.List.Sums.{sum_by-cons, sum_by-append}
 use Rattle.std.proofs.lemmas.Bool.{eq-eqb, ne_eqb, cases_eq, cases_lt}
@@ -106,7 +106,7 @@ next_power s x i j ps px h =
     (λ (l : j ≤ i). absurd (omega (arith, pow_mono l)))
     (cases_lt i j)
 
-powers_of_two : (m s n k : ℕ) (bs : List Bucket) → s ≡ 2 ^ k → Shaped m s n bs → All (λ b. (j : ℕ) × (b.size ≡ 2 ^ j)) bs
+powers_of_two : (m s n k : ℕ) (bs : List Bucket) → s ≡ 2 ^ k → Shaped m s n bs → AllByRecursion (λ b. (j : ℕ) × (b.size ≡ 2 ^ j)) bs
 powers_of_two m s n k [] p end = tt
 powers_of_two m s n k (b ∷ bs) p (more e l r) = ((k, e ∙ p), powers_of_two m s (n + 1) k bs p r)
 powers_of_two m s n k (b ∷ bs) p (next e l r) =

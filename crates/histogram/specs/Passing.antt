@@ -1,7 +1,7 @@
 -- One pass over the levels tells whether they are sound, and what they count.
 use Rattle.std.specs.Prelude.{◌≡◌, ℕ, ◌+◌, ◌*◌, ◌^◌, ◌<◌, ◌≤◌, true, false, ◌&&◌, ◌||◌, List, ◌++◌, map, length, get_or, take, drop, Some, None, ◌==◌, nat_le, slice_index_or}
 use Rattle.std.proofs.Common.{sym, ap, subst, ◌∙◌, arith}
-use Rattle.std.specs.List.{AllByRecursion as All}
+use Rattle.std.specs.List.{AllByRecursion}
 use Rattle.std.proofs.lemmas.List.{take_more, take_all, take-append-drop, length-take-le, at_drop_more, at_drop_all}
 use Rattle.std.proofs.ByRecursion.{All-more}
 use Rattle.std.proofs.lemmas.Bool.{and_parts, and_left, leb-true}
@@ -18,7 +18,7 @@ use Rattle.histogram.specs.Carrying.{buckets_after, buckets_more}
 pub record Pass (m last t v : ℕ) (ls : List Level) (j : ℕ) (a : Tally) (size before : ℕ) : Type 0 where
   pub tells : Tells t v last (buckets_from 1 (take j ls)) a
   pub power : size ≡ 2 ^ j
-  pub places : All Places (take j ls)
+  pub places : AllByRecursion Places (take j ls)
   pub fills : filled m m ls ≡ filled m before (drop j ls)
   pub high : a.high ≤ a.sum
   pub sum : a.sum + 7 ≤ 7 * size
@@ -60,14 +60,14 @@ module _ (m last t v : ℕ) (ls : List Level) (j : ℕ) (a : Tally) (size before
 -- all levels are read
 pub record Passed (m last t v : ℕ) (ls : List Level) (a : Tally) : Type 0 where
   pub tells : Tells t v last (buckets_from 1 ls) a
-  pub places : All Places ls
+  pub places : AllByRecursion Places ls
   pub fills : filled m m ls ≡ true
 
 pub pass_all : (m last t v : ℕ) (ls : List Level) (j : ℕ) (a : Tally) (size before : ℕ) → Pass m last t v ls j a size before → length ls ≤ j → Passed m last t v ls a
 pass_all m last t v ls j a size before p end =
     let all = take_all j ls end in record {
       tells = subst (λ z. Tells t v last (buckets_from 1 z) a) all p.tells;
-      places = subst (All Places) all p.places;
+      places = subst (AllByRecursion Places) all p.places;
       fills = p.fills ∙ at_drop_all (filled m before) ls j end;
     }
 

@@ -2,7 +2,7 @@
 use Rattle.std.specs.Prelude.{◌≡◌, ℕ, ◌+◌, true, false, cond, List, [], ◌∷◌, ◌++◌, Some, None, Option}
 use Rattle.window.specs.Stamps.{is_live}
 use Rattle.histogram.specs.declared.tally.Tally.{Tally}
-use Rattle.histogram.specs.Buckets.{Bucket, bucket, total, falling, live_buckets, least, most}
+use Rattle.histogram.specs.Buckets.{Bucket, total, falling, live_buckets, least, most}
 
 -- the stamp of the oldest bucket, top where there is none
 abbrev pub oldest_stamp : ℕ → List Bucket → ℕ

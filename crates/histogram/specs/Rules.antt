@@ -1,6 +1,6 @@
 -- The rules of an exponential histogram: when buckets, newest first, are sound, and how an arrival changes them.
 use Rattle.std.specs.Prelude.{◌≡◌, ℕ, ◌+◌, ◌*◌, ◌^◌, ◌<◌, ◌≤◌, max, true, List, [], ◌∷◌, ◌++◌, count_by, nat_eq}
-use Rattle.std.specs.List.{AllByRecursion as All}
+use Rattle.std.specs.List.{AllByRecursion}
 use Rattle.histogram.specs.Buckets.{Bucket, bucket, total, falling, live_buckets}
 
 -- how many buckets have size s
@@ -19,7 +19,7 @@ Climbing lo (b ∷ bs) = (lo ≤ b.size) × Climbing b.size bs
 
 -- sound buckets of fineness m, none after the last stamp
 pub record SoundBuckets (m last : ℕ) (bs : List Bucket) : Type 0 where
-  pub powers_of_two : All (λ b. (k : ℕ) × (b.size ≡ 2 ^ k)) bs
+  pub powers_of_two : AllByRecursion (λ b. (k : ℕ) × (b.size ≡ 2 ^ k)) bs
   pub sizes_never_fall : Climbing 1 bs
   pub sum_bounded : total bs ≤ 4095
   pub stamps_never_rise : falling last bs ≡ true

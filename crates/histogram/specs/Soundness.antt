@@ -2,7 +2,7 @@
 use Rattle.std.specs.Prelude.{◌≡◌, ℕ, ◌<◌, ◌≤◌, true, false, ◌&&◌, List, [], ◌∷◌, length, is_some, Some, None, Decides, Option, ◌==◌, nat_le, refl}
 use Rattle.std.proofs.Common.{sym, ◌∙◌, ⊎_elim, arith}
 use Rattle.std.specs.Option.{unwrap_or}
-use Rattle.std.specs.List.{AllByRecursion as All}
+use Rattle.std.specs.List.{AllByRecursion}
 use Rattle.std.proofs.lemmas.Bool.{both_ways, and_parts, and_from, leb-true, le-leb, eqb-true, eq-eqb, cases_Bool, cond-true, cond-false}
 use Rattle.histogram.specs.declared.levels.Level.{Level}
 use Rattle.histogram.specs.declared.tally.Tally.{Tally}
@@ -18,7 +18,7 @@ use Rattle.histogram.specs.Passing.{Passed}
 pub record Parts (c : Histogram) : Type 0 where
   pub ranges : in_range c.window c.fineness ≡ true
   pub levels : length c.levels ≡ 12
-  pub places : All Places c.levels
+  pub places : AllByRecursion Places c.levels
   pub fills : filled c.fineness c.fineness c.levels ≡ true
   pub falls : falling c.last (buckets c) ≡ true
   pub sum : total (buckets c) ≤ 4095
@@ -39,14 +39,14 @@ ranges_from w m e =
 pub ranges_to : (w m : ℕ) → 1 ≤ w → w ≤ 4294967295 → 1 ≤ m → m ≤ 6 → in_range w m ≡ true
 ranges_to w m a b d e = and_from (nat_le 1 w && nat_le w 4294967295) (nat_le 1 m && nat_le m 6) (and_from _ _ (le-leb _ _ a) (le-leb _ _ b)) (and_from _ _ (le-leb _ _ d) (le-leb _ _ e))
 
-placed_from : (ls : List Level) → placed ls ≡ true → All Places ls
+placed_from : (ls : List Level) → placed ls ≡ true → AllByRecursion Places ls
 placed_from [] e = tt
 placed_from (l ∷ ls) e =
     let a = and_parts (length l.stamps == 7 && nat_le l.number 7) (placed ls) e in
     let b = and_parts (length l.stamps == 7) (nat_le l.number 7) a.0 in
     ((eqb-true _ _ b.0, leb-true _ _ b.1), placed_from ls a.1)
 
-placed_to : (ls : List Level) → All Places ls → placed ls ≡ true
+placed_to : (ls : List Level) → AllByRecursion Places ls → placed ls ≡ true
 placed_to [] p = refl
 placed_to (l ∷ ls) p = and_from (length l.stamps == 7 && nat_le l.number 7) (placed ls) (and_from _ _ (eq-eqb _ _ p.0.0) (le-leb _ _ p.0.1)) (placed_to ls p.1)
 

@@ -1,6 +1,6 @@
 // The buckets of one size, and those of all sizes.
 ghost use Rattle.std.specs.Prelude.{◌≡◌, ℕ, ◌+◌, ◌-◌, ◌<◌, ◌≤◌, true, not, ◌∷◌, length, take, nat_lt, slice_index};
-ghost use Rattle.std.specs.List.{AllByRecursion as All};
+ghost use Rattle.std.specs.List.{AllByRecursion};
 ghost use Rattle.window.specs.Stamps.{is_live};
 ghost use Rattle.histogram.specs.declared.levels.Level.{Level as OneLevel};
 ghost use Rattle.histogram.specs.Buckets.{bucket, total, falling, live_buckets, settle};
@@ -98,9 +98,9 @@ impl Level {
 
 // Drops the buckets dead at t over v.
 pub(crate) fn drop_dead(levels: &mut [Level; 12], t: u32, v: u32)
-    requires places { All Places levels.old }
-    ensures places { All Places levels.new }
-    ensures fewer { (n : ℕ) → All (λ (l : OneLevel). l.number ≤ n) levels.old → All (λ (l : OneLevel). l.number ≤ n) levels.new }
+    requires places { AllByRecursion Places levels.old }
+    ensures places { AllByRecursion Places levels.new }
+    ensures fewer { (n : ℕ) → AllByRecursion (λ (l : OneLevel). l.number ≤ n) levels.old → AllByRecursion (λ (l : OneLevel). l.number ≤ n) levels.new }
     ensures live { (s top : ℕ) → top ≤ t → falling top (buckets_from s levels.old) ≡ true → buckets_from s levels.new ≡ live_buckets t v (buckets_from s levels.old) }
 {
     for level in levels.iter_mut() {
@@ -112,11 +112,11 @@ pub(crate) fn drop_dead(levels: &mut [Level; 12], t: u32, v: u32)
 pub(crate) fn carry_in(levels: &mut [Level; 12], fineness: u8, t: u32)
     requires some { 0 < fineness }
     requires fine { fineness ≤ 6 }
-    requires places { All Places levels.old }
-    requires few { All (λ (l : OneLevel). l.number ≤ fineness + 1) levels.old }
+    requires places { AllByRecursion Places levels.old }
+    requires few { AllByRecursion (λ (l : OneLevel). l.number ≤ fineness + 1) levels.old }
     requires room { total (buckets_from 1 levels.old) < 4095 }
     ensures twelve { length levels.new ≡ 12 }
-    ensures places { All Places levels.new }
+    ensures places { AllByRecursion Places levels.new }
     ensures settled { buckets_from 1 levels.new ≡ settle fineness 1 (bucket 1 t) (buckets_from 1 levels.old) }
 {
     let mut arriving = t;

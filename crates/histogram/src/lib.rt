@@ -1,4 +1,6 @@
 // The exponential histogram: buckets of arrivals, each with a size and the stamp of its newest arrival.
+#![tactic(auto)]
+
 ghost use Rattle.std.specs.Prelude.{◌≡◌, ℕ, ◌<◌, ◌≤◌, min, max, true, List, Decides, nat_le};
 ghost use Rattle.window.specs.Meaning.{Fresh};
 ghost use Rattle.window.specs.Faults.{Counted, Took, most_taken};

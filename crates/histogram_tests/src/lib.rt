@@ -1,4 +1,6 @@
 // Runs of the histogram.
+#![tactic(auto)]
+
 #[cfg(test)]
 mod tests {
     use histogram::Histogram;

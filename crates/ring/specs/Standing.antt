@@ -1,9 +1,9 @@
 -- What a ring that stands for a list counts, and that it goes on standing.
-use Rattle.std.specs.Prelude.{◌≡◌, ℕ, ◌+◌, ◌-◌, ◌*◌, ◌%◌, ◌<◌, ◌≤◌, min, Bool, true, false, ◌&&◌, ◌||◌, ◌⊎◌, List, [], ◌∷◌, ◌++◌, length, take, drop, Decides, ◌==◌, nat_lt, slice_index, refl}
+use Rattle.std.specs.Prelude.{◌≡◌, ℕ, ◌+◌, ◌-◌, ◌*◌, ◌%◌, ◌<◌, ◌≤◌, min, true, ◌||◌, ◌⊎◌, List, [], ◌∷◌, ◌++◌, length, take, drop, Decides, ◌==◌, nat_lt, slice_index, refl}
 use Rattle.std.proofs.Common.{sym, ap, ◌∙◌, inl, inr, ⊎_elim, arith, mul-zero}
 use Rattle.std.proofs.lemmas.Bool.{and_parts, and_from, eqb-true, eq-eqb, cases_lt, cases_eq}
 use Rattle.std.proofs.lemmas.Bool.Decides.{Decides-or, Decides-eqb, Decides-ltb}
-use Rattle.std.proofs.lemmas.List.{length-take, length-drop, length_push, length-set, get_or_append_left, get_or-set_same, get_or-set_other, get_or_push}
+use Rattle.std.proofs.lemmas.List.{length-drop, length_push, length-set, get_or_append_left, get_or-set_same, get_or-set_other, get_or_push}
 use Rattle.window.specs.Stamps.{live_count, ascending, newest_stamp}
 use Rattle.window.specs.Meaning.{Keeps, Fresh}
 use Rattle.window.specs.Causes.{Admitted}

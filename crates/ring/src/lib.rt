@@ -1,4 +1,6 @@
 // The exact ring: a window counter that keeps the newest 256 stamps, so low and high are the same.
+#![tactic(auto)]
+
 ghost use Rattle.std.specs.Prelude.{◌≡◌, ◌%◌, ◌<◌, true, is_ok, nat_le};
 ghost use Rattle.window.specs.Faults.{Tested, Took, count_causes, take_causes};
 ghost use Rattle.ring.specs.Kept.{empty_ring, kept, live_kept, with_newest, ring_model};

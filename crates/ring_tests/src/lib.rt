@@ -1,4 +1,6 @@
 // The exact ring on examples: each is proved to end, and run.
+#![tactic(auto)]
+
 #[cfg(test)]
 mod tests {
     use ring::Ring;

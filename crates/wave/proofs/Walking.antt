@@ -1,9 +1,9 @@
 -- The walk from one kept rank to the next below it.
 use Rattle.std.proofs.Common.{◌≡◌, ℕ, ◌+◌, ◌-◌, ◌*◌, ◌/◌, ◌^◌, ◌<◌, ◌≤◌, true, Some, ap, ⊎_elim, mul-le-mul_right, add-mul, arith}
-use lib.Pow.{shr_mono}
+use Rattle.std.proofs.Math.Pow.{shr_mono}
 use Rattle.std.proofs.lemmas.Bool.{cases_lt}
 use Rattle.std.proofs.lemmas.Nat.{pow_pos, shr_split}
-use Rattle.wave.specs.Ranks.{top, keeps, kept}
+use Rattle.wave.specs.Ranks.{top, kept}
 use Rattle.wave.specs.Walks.{StandsAt, Older}
 use Rattle.wave.specs.Levels.{LevelKeeps, reach, keeps_decides, kept_decides, top_le, top_divides, divides_top, whole}
 

@@ -1,5 +1,5 @@
 -- What a wave holds after a taking.
-use Rattle.std.specs.Prelude.{◌≡◌, ℕ, ◌+◌, ◌≤◌, true, false, Ok, Err, Decides, Result}
+use Rattle.std.specs.Prelude.{◌≡◌, ℕ, ◌≤◌, true, false, Ok, Err, Decides, Result}
 use Rattle.window.specs.declared.CounterFault.{CounterFault}
 use Rattle.wave.specs.Ranks.{top, keeps, Newest}
 use Rattle.wave.specs.Waves.{stamp_of, sound, arrived}

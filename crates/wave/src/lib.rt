@@ -1,4 +1,6 @@
 // The deterministic wave: each level keeps the newest 2m + 1 of its ranks, with their stamps.
+#![tactic(auto)]
+
 mod arrivals;
 pub mod counter;
 pub mod ranks;

@@ -1,8 +1,8 @@
 -- What a count owes, from the rules that the counter keeps.
-use Rattle.std.proofs.Common.{◌≡◌, ℕ, ◌<◌, ◌≤◌, true, false, eqb, ltb, leb, ◌++◌, sym, arith}
+use Rattle.std.proofs.Common.{◌≡◌, ℕ, ◌<◌, ◌≤◌, ◌++◌, arith}
 use Rattle.std.proofs.lemmas.Bool.Decides.{nat_tests}
 use Rattle.window.specs.Causes.{Admitted}
-use Rattle.window.specs.Meaning.{Model, Keeps, Permitted, Between}
+use Rattle.window.specs.Meaning.{Model, Keeps, Permitted}
 use Rattle.window.specs.Faults.{question_causes, turn_causes, room_causes, count_causes, most_taken, Estimate}
 
 -- a question that no cause turns away is a permitted one

@@ -1,5 +1,5 @@
 -- Lists of causes that are tested one after the other.
-use Rattle.std.proofs.Common.{◌≡◌, ℕ, Bool, true, false, cond, List, [], ◌∷◌, ◌++◌, Some, None, Option, refl, ap, ◌∙◌, arith}
+use Rattle.std.proofs.Common.{◌≡◌, ℕ, Bool, true, false, List, [], ◌∷◌, ◌++◌, refl, arith}
 use Rattle.window.specs.Causes.{first_cause, Admitted, Refused}
 
 -- the first of two lists admits: the second decides

@@ -1,5 +1,5 @@
 -- Stamps, and lists of them in the order of their arrival. A stamp is a count of seconds.
-use Rattle.std.specs.Prelude.{ℕ, ◌-◌, ◌<◌, ◌≤◌, Bool, true, ◌&&◌, List, [], ◌∷◌, count_by, nat_le, nat_lt}
+use Rattle.std.specs.Prelude.{ℕ, ◌-◌, Bool, true, ◌&&◌, List, [], ◌∷◌, count_by, nat_le, nat_lt}
 
 -- stamp s is live at time t over span v: not after t, and less than v before it
 abbrev pub is_live : ℕ → ℕ → ℕ → Bool

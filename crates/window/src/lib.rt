@@ -1,4 +1,6 @@
 // Window counters: one meaning, several ways to hold it.
+#![tactic(auto)]
+
 ghost use Rattle.std.specs.Prelude.{◌≡◌};
 ghost use Rattle.window.specs.Meaning.{Model, Keeps, Fresh};
 ghost use Rattle.window.specs.Faults.{Counted, Took, number};
@@ -36,7 +38,7 @@ impl CounterFault {
 
 // A counter of the stamps that are live at a time over a span.
 pub trait Counter: Copy {
-    // what a held value means, and that it keeps the rules
+    // what a held value means
     ghost model: { Model Self };
 
     fn make(window: u32, fineness: u8) -> Self
@@ -67,5 +69,6 @@ pub trait Counter: Copy {
     fn take(&mut self, t: u32) -> Result<(), CounterFault>
         ensures took { Took model self.old self.new t result };
 
+    // the law: that meaning keeps the rules
     ghost keeps: { Keeps model };
 }

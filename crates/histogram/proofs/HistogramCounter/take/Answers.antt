@@ -12,10 +12,10 @@ pub returns : goal.returns
 returns c =
     let held = c.args.self.now in
     let t = c.args.t in
-    let high = ap (λ p. p.1) c.unwrap-or-high.ensures ∙ (reads_pair held t held.window c.read-reading.result c.read-reading.ensures.reads).1 in
-    let turn = c.in-ok-in-turn.ensures.tested in
+    let high = ap (λ p. p.1) c.unwrap_or-high.ensures ∙ (reads_pair held t held.window c.read-reading.result c.read-reading.ensures.reads).1 in
+    let turn = c.in_ok-in_turn.ensures.tested in
     let room : Admitted (room_causes (high_at held t held.window) 4095) =
-    subst (λ z. Admitted (room_causes z 4095)) high (subst (λ z. Admitted (room_causes c.unwrap-or-high.result.1 z)) c.limit.ensures.told c.in-ok-has-room.ensures.tested) in
+    subst (λ z. Admitted (room_causes z 4095)) high (subst (λ z. Admitted (room_causes c.unwrap_or-high.result.1 z)) c.limit.ensures.told c.in_ok-has_room.ensures.tested) in
     record {
       took = (admitted_then (turn_causes held.last held.taken t) (room_causes (high_at held t held.window) 4095) turn ∙ room, arrived held c.arrive.new.self t (in_turn held.last held.taken t turn).0 c.arrive.ensures.arrives);
       leaves = c.arrive.ensures.arrives;

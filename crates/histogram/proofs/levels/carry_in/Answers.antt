@@ -18,15 +18,15 @@ insert-requires c =
       few = omega (arith, ap (λ z. z.number) same, All-get_or (λ (z : Level). z.number ≤ c.args.fineness + 1) c.args.levels.now l.level-index none inside c.requires.few);
     }
 
-pub returns-in-default : goal.returns-in-default
-returns-in-default c =
+pub returns-in_default : goal.returns-in_default
+returns-in_default c =
     let l = c.loop-level in
     let none : Level = record { number = 0; stamps = [] } in
     let inside : l.level-index < length c.args.levels.now = omega (arith, c.told-levels) in
     record {
       twelve = length-set l.levels l.level-index c.insert.new.self ∙ l.invariant.long ∙ c.told-levels;
-      places = All-set Places l.levels l.level-index c.insert.new.self c.in-default.ensures.places l.invariant.places;
-      settled = carried_done c.args.fineness c.args.t c.args.levels.now l.levels l.level-index l.arriving l.invariant inside none c.insert.new.self c.in-default.ensures.inserted (pow_pos l.level-index);
+      places = All-set Places l.levels l.level-index c.insert.new.self c.in_default.ensures.places l.invariant.places;
+      settled = carried_done c.args.fineness c.args.t c.args.levels.now l.levels l.level-index l.arriving l.invariant inside none c.insert.new.self c.in_default.ensures.inserted (pow_pos l.level-index);
     }
 
 pub loop-level-preserved : goal.loop-level-preserved

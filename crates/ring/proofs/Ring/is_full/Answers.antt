@@ -8,10 +8,10 @@ returns-then-self-lt-KEPT c =
     let self = c.args.self.now in
     record { full = free_early self c.args.t self.window c.if-self-lt-KEPT.true }
 
-pub returns-then-not-is-live : goal.returns-then-not-is-live
-returns-then-not-is-live c =
+pub returns-then-not-is_live : goal.returns-then-not-is_live
+returns-then-not-is_live c =
     let self = c.args.self.now in
     let t = c.args.t in
     let room : length self.stamps ≡ 256 = search rules in
-    let dead = ap (λ i. is_live t self.window (get_or self.stamps i 0)) (sym c.place-of.ensures.place) ∙ sym c.if-not-is-live.ensures.live in
+    let dead = ap (λ i. is_live t self.window (get_or self.stamps i 0)) (sym c.place_of.ensures.place) ∙ sym c.if-not-is_live.ensures.live in
     record { full = free_oldest self t self.window c.if-self-lt-KEPT.false room dead }

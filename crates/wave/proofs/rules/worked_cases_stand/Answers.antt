@@ -1,5 +1,5 @@
 use Rattle.std.proofs.Common.{refl}
-use lib.Count.{count_trailing_zeros}
+use Rattle.std.specs.Int.Count.{count_trailing_zeros}
 use Rattle.window.specs.Below.{all_below, any_below}
 use Rattle.wave.specs.Searches.{first_below, last_below}
 use Rattle.wave.specs.Ranks.{keeps, kept}

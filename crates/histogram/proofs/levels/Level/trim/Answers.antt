@@ -15,19 +15,19 @@ loop-self-preserved c =
     let places : length c.args.self.now.stamps ≡ 7 = search rules in
     let before = c.args.self.now in
     let now = c.loop-self.self in
-    let dead : is_live c.args.t c.args.v (get_or now.stamps (now.number - 1) 0) ≡ false = is_dead _ c.if-oldest-is-dead.ensures.dead in
+    let dead : is_live c.args.t c.args.v (get_or now.stamps (now.number - 1) 0) ≡ false = is_dead _ c.if-oldest_is_dead.ensures.dead in
     let less = trimming_less c.args.t c.args.v before.stamps before.number now.number c.loop-self.invariant.0 c.loop-self-test.true (omega (arith, c.loop-self.invariant.0.fewer))
     (ap (λ z. is_live c.args.t c.args.v (get_or z (now.number - 1) 0)) (sym c.loop-self.invariant.1) ∙ dead) in
-    (subst (Trimming c.args.t c.args.v before.stamps before.number) (sym c.drop-oldest.ensures.fewer) less, c.drop-oldest.ensures.stamps ∙ c.loop-self.invariant.1)
+    (subst (Trimming c.args.t c.args.v before.stamps before.number) (sym c.drop_oldest.ensures.fewer) less, c.drop_oldest.ensures.stamps ∙ c.loop-self.invariant.1)
 
-pub returns-else-oldest-is-dead : goal.returns-else-oldest-is-dead
-returns-else-oldest-is-dead c =
+pub returns-else-oldest_is_dead : goal.returns-else-oldest_is_dead
+returns-else-oldest_is_dead c =
     let places : length c.args.self.now.stamps ≡ 7 = search rules in
     let inv = c.loop-self.invariant in
     record {
       stamps = inv.1;
       fewer = inv.0.fewer;
-      trimmed = trimmed c.args.t c.args.v c.args.self.now c.loop-self.self inv.0 inv.1 (omega (arith, inv.0.fewer)) (λ _. still_alive _ c.if-oldest-is-dead.ensures.dead);
+      trimmed = trimmed c.args.t c.args.v c.args.self.now c.loop-self.self inv.0 inv.1 (omega (arith, inv.0.fewer)) (λ _. still_alive _ c.if-oldest_is_dead.ensures.dead);
     }
 
 pub returns-after-loop-self : goal.returns-after-loop-self
