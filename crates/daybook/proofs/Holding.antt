@@ -1,6 +1,6 @@
 -- A board that keeps what it should holds against its day book.
-use Rattle.std.proofs.Common.{◌≡◌, ℕ, ◌+◌, ◌*◌, ◌^◌, ◌<◌, ◌≤◌, true, leb, List, length, filter, sym, ap, subst, mul-le-mul_left, arith}
-use Rattle.std.specs.List.{range_with_len, ContainsAt as Has, AllByRecursion as All}
+use Rattle.std.proofs.Common.{◌≡◌, ℕ, ◌+◌, ◌<◌, ◌≤◌, true, leb, length, ap, mul-le-mul_left, arith}
+use Rattle.std.specs.List.{range_with_len, ContainsAt as Has}
 use Rattle.std.proofs.lemmas.Bool.{leb-true, le-leb}
 use Rattle.std.proofs.ByRecursion.{All-weaker, All-map, all-has, kept_by_passes}
 use Rattle.window.specs.Meaning.{Model, Keeps, Permitted}

@@ -1,6 +1,6 @@
 -- What a board keeps against its day book, call after call.
-use Rattle.std.proofs.Common.{◌≡◌, ℕ, ◌<◌, ◌≤◌, length}
-use Rattle.std.specs.List.{AllByRecursion as All}
+use Rattle.std.proofs.Common.{◌≡◌, ◌≤◌, length}
+use Rattle.std.specs.List.{AllByRecursion}
 use Rattle.window.specs.Meaning.{Model}
 use Rattle.sketch.specs.Layout.{Sound, keys}
 use Rattle.sketch.specs.Laws.{Faithful}
@@ -13,6 +13,6 @@ pub record Kept {C : Type 0} (m : Model C) (σ : State C) (book : Book) : Type 0
   pub registered : σ.register ≡ book.enrolled
   pub counted : σ.accepted ≡ length book.plays
   pub room : length book.enrolled ≤ keys σ.shape
-  pub known : All (λ p. Enrolled book p.serial) book.plays
-  pub past : All (λ p. p.stamp ≤ σ.clock) book.plays
+  pub known : AllByRecursion (λ p. Enrolled book p.serial) book.plays
+  pub past : AllByRecursion (λ p. p.stamp ≤ σ.clock) book.plays
   pub faithful : Faithful m σ.shape σ.cells (keyed book)

@@ -1,6 +1,6 @@
 -- Serials and their keys.
-use Rattle.std.proofs.Common.{◌≡◌, ℕ, zero, suc, ◌+◌, ◌<◌, ◌≤◌, Bool, true, false, cond, ◌&&◌, eqb, leb, ◌⊎◌, List, [], ◌∷◌, ◌++◌, map, length, get_or, count_by, filter, sym, refl, ap, ◌∙◌, subst, inl, inr, ⊎_elim, one-add, arith}
-use Rattle.std.specs.List.{range_with_len, ContainsAt as Has, AllByRecursion as All}
+use Rattle.std.proofs.Common.{◌≡◌, ℕ, zero, suc, ◌+◌, ◌<◌, ◌≤◌, Bool, true, false, cond, ◌&&◌, eqb, leb, ◌⊎◌, List, [], ◌∷◌, ◌++◌, map, length, get_or, count_by, filter, sym, refl, ap, ◌∙◌, inl, inr, ⊎_elim, one-add, arith}
+use Rattle.std.specs.List.{range_with_len, ContainsAt as Has, AllByRecursion}
 use Rattle.std.proofs.lemmas.Bool.{cases_Bool, and_parts, and_from, eqb-true, eq-eqb, leb-true, le-leb, false≢true, cond_both, cond-true, cond-false}
 use Rattle.std.proofs.lemmas.List.Sums.{sum_by-cons}
 use Rattle.std.proofs.lemmas.List.FromFn.{length-range_with_len, get_or-range_with_len}
@@ -79,7 +79,7 @@ module _ (book : Book) (s : Serial) (t v : ℕ) where
   abbrev by_serial : Play → Bool
   by_serial p = is_live t v p.stamp && same_bytes s p.serial
 
-  all_plays : {X : Type 0} (xs : List X) → All (λ x. Unit {0}) xs
+  all_plays : {X : Type 0} (xs : List X) → AllByRecursion (λ x. Unit {0}) xs
   all_plays [] = tt
   all_plays (x ∷ xs) = (tt, all_plays xs)
 
@@ -135,9 +135,9 @@ kept_rising p a (suc n) =
     rising_lower lo hi [] h r = tt
     rising_lower lo hi (x ∷ xs) h r = (omega (arith, r.0), r.1)
 
-pub kept_below : (p : ℕ → Bool) (a n : ℕ) → All (λ x. x < a + n) (filter p (range_with_len a n))
+pub kept_below : (p : ℕ → Bool) (a n : ℕ) → AllByRecursion (λ x. x < a + n) (filter p (range_with_len a n))
 kept_below p a n = all_kept_by p (λ x. x < a + n) (range_with_len a n) (counting_below a n)
   where
-    counting_below : (a n : ℕ) → All (λ x. x < a + n) (range_with_len a n)
+    counting_below : (a n : ℕ) → AllByRecursion (λ x. x < a + n) (range_with_len a n)
     counting_below a zero = tt
     counting_below a (suc n) = (omega arith, All-weaker (λ x. x < a + 1 + n) (λ x. x < a + suc n) (λ x h. omega arith) (range_with_len (a + 1) n) (counting_below (a + 1) n))

@@ -1,11 +1,9 @@
 -- Opening makes a board keep what it should, and every call leaves it so.
-use Rattle.std.proofs.Common.{◌≡◌, ℕ, ◌+◌, ◌<◌, ◌≤◌, Bool, true, false, List, [], ◌∷◌, ◌++◌, map, length, sym, refl, ap, ◌∙◌, subst, arith}
-use Rattle.std.specs.List.{AllByRecursion as All}
+use Rattle.std.proofs.Common.{◌≡◌, ℕ, ◌+◌, ◌≤◌, Bool, true, false, List, [], ◌∷◌, ◌++◌, map, length, sym, refl, ap, subst, arith}
+use Rattle.std.specs.List.{AllByRecursion}
 use Rattle.std.proofs.lemmas.List.{length_push, map-append}
 use Rattle.std.proofs.ByRecursion.{All-push, All-weaker}
 use Rattle.window.specs.Meaning.{Model, Keeps}
-use Rattle.sketch.specs.Layout.{Shape}
-use Rattle.sketch.specs.Plays.{KeyedPlay}
 use Rattle.sketch.specs.Laws.{Faithful}
 use Rattle.sketch.specs.Telling.{ToldFrom}
 use Rattle.sketch.proofs.TellLaws.{told_faithful}
@@ -18,7 +16,7 @@ use Rattle.daybook.proofs.Kept.{Kept}
 use Rattle.daybook.proofs.Holding.{law_holds}
 
 -- two functions that agree on what P holds of map alike
-map_same : {X Y : Type 0} (P : X → Type 0) (f g : X → Y) (xs : List X) → All P xs → ((x : X) → P x → f x ≡ g x) → map f xs ≡ map g xs
+map_same : {X Y : Type 0} (P : X → Type 0) (f g : X → Y) (xs : List X) → AllByRecursion P xs → ((x : X) → P x → f x ≡ g x) → map f xs ≡ map g xs
 map_same P f g [] a h = refl
 map_same P f g (x ∷ xs) a h = let here = h x a.0 in let rest = map_same P f g xs a.1 h in cc
 
@@ -31,7 +29,7 @@ module _ {C : Type 0} (m : Model C) where
   same_state σ σ' a b c d e = λ i. record { shape = a i; cells = b i; register = c i; clock = d i; accepted = e i }
 
   -- the keys of the plays do not change when a serial is enrolled
-  keyed_enrolled : (book : Book) (u : Serial) → All (λ p. Enrolled book p.serial) book.plays → keyed (noted book (enrol u) true) ≡ keyed book
+  keyed_enrolled : (book : Book) (u : Serial) → AllByRecursion (λ p. Enrolled book p.serial) book.plays → keyed (noted book (enrol u) true) ≡ keyed book
   keyed_enrolled book u known =
       map_same (λ p. Enrolled book p.serial) (λ p. record { key = key_of (noted book (enrol u) true) p.serial; stamp = p.stamp }) (λ p. record { key = key_of book p.serial; stamp = p.stamp }) book.plays known
       (λ p h. let e = key_stays book.enrolled u p.serial h in ap (λ x. record { key = x; stamp = p.stamp }) e)

@@ -1,6 +1,6 @@
 -- What a board promises against the day book, over any counter.
 use Rattle.std.specs.Prelude.{ℕ, ◌+◌, ◌*◌, ◌<◌, ◌≤◌, List, [], ◌∷◌, length}
-use Rattle.std.specs.List.{ContainsAt as Has, AllByRecursion as All}
+use Rattle.std.specs.List.{ContainsAt as Has, AllByRecursion}
 use Rattle.window.specs.Meaning.{Model, Permitted}
 use Rattle.sketch.specs.Layout.{node_of}
 use Rattle.sketch.specs.Pieces.{over_pieces}
@@ -25,7 +25,7 @@ pub record Holds {C : Type 0} (m : Model C) (σ : State C) (d : C) (book : Book)
   pub high_near : (a b : ℕ) → σ.shape.fineness * high_of m σ d t v a b ≤ (σ.shape.fineness + 1) * over_pieces σ.shape.bits a b (least_row_count σ.shape (keyed book) t v)
   pub low_near : (a b : ℕ) → σ.shape.fineness * over_pieces σ.shape.bits a b (clear_count σ.shape (length σ.register) (keyed book) t v) ≤ (σ.shape.fineness + 1) * low_of m σ d t v a b
   -- the list for g names enrolled keys only, rising and so each once, and every cabinet with g or more live plays
-  pub listed_enrolled : (g : ℕ) → All (λ x. x < length book.enrolled) (listed m σ d t v g)
+  pub listed_enrolled : (g : ℕ) → AllByRecursion (λ x. x < length book.enrolled) (listed m σ d t v g)
   pub listed_rising : (g : ℕ) → Rising 0 (listed m σ d t v g)
   pub busy_listed : (g : ℕ) (s : Serial) → Enrolled book s → g ≤ count_of_cabinet book s t v → Has (listed m σ d t v g) (key_of book s)
   -- at every level the least row count of a listed one's node is near g

@@ -1,4 +1,6 @@
 // The day book, and the law that every run of calls on a board keeps against it, over any counter.
+#![tactic(auto)]
+
 ghost use Rattle.std.specs.Prelude.{Bool};
 ghost use Rattle.daybook.specs.Book.{Call};
 ghost use Rattle.daybook.specs.Boards.{State};

@@ -1,5 +1,5 @@
 -- The draft of a list, as keys rise.
-use Rattle.std.proofs.Common.{◌≡◌, ℕ, ◌+◌, ◌-◌, ◌^◌, ◌<◌, ◌≤◌, true, false, leb, List, [], ◌∷◌, ◌++◌, map, length, take, set, Some, None, Ok, Err, filter, sym, refl, ap, ◌∙◌, subst, ⊎_elim, arith, pow_mono}
+use Rattle.std.proofs.Common.{◌≡◌, ℕ, ◌+◌, ◌^◌, ◌<◌, ◌≤◌, true, false, leb, List, [], ◌∷◌, ◌++◌, map, length, take, set, Some, None, Ok, Err, filter, sym, refl, ap, ◌∙◌, subst, ⊎_elim, arith, pow_mono}
 use Rattle.std.specs.List.{range_with_len}
 use Rattle.std.proofs.lemmas.List.{length-set, length_push, map_push, take_more_set}
 use Rattle.std.proofs.lemmas.Bool.{cases_lt, le-leb, lt-leb}

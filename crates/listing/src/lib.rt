@@ -1,4 +1,6 @@
 // Lists: the keys whose nodes reach a threshold at every level.
+#![tactic(auto)]
+
 mod levels;
 pub mod lists;
 

@@ -1,5 +1,5 @@
 -- Where the cells stand for the plays, what is answered holds.
-use Rattle.std.proofs.Common.{◌≡◌, ℕ, ◌+◌, ◌*◌, ◌<◌, ◌≤◌, List, [], ◌∷◌, length, Some, None, Ok, Err, Result, sym, subst, subst₂, arith}
+use Rattle.std.proofs.Common.{◌≡◌, ℕ, ◌<◌, ◌≤◌, List, [], ◌∷◌, length, Ok, Err, Result, sym, subst, subst₂, arith}
 use Rattle.window.specs.Causes.{Refused}
 use Rattle.window.specs.Meaning.{Model, Keeps, Permitted}
 use Rattle.window.specs.Faults.{number, count_causes}

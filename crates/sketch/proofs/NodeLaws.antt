@@ -1,8 +1,8 @@
 -- A node's live plays lie from its low to its high, and both are near, where the cells stand for the plays.
-use Rattle.std.proofs.Common.{◌≡◌, ℕ, zero, suc, ◌+◌, ◌-◌, ◌*◌, ◌/◌, ◌%◌, ◌^◌, ◌<◌, ◌≤◌, Bool, true, false, cond, not, ◌&&◌, eqb, ltb, List, map, get_or, filter, sym, refl, ap, ◌∙◌, ⊎_elim, mul-le-mul_left, div-mul-le_self, arith}
+use Rattle.std.proofs.Common.{◌≡◌, ℕ, zero, suc, ◌+◌, ◌-◌, ◌*◌, ◌/◌, ◌%◌, ◌^◌, ◌<◌, ◌≤◌, Bool, true, false, cond, not, ◌&&◌, eqb, ltb, List, map, get_or, filter, ap, ⊎_elim, mul-le-mul_left, div-mul-le_self, arith}
 use native.Mathlib.Nat.{mul-sub}
-use Rattle.std.specs.List.{AllByRecursion as All}
-use Rattle.std.proofs.lemmas.Bool.{cases_Bool, and_parts, and_from, lt-ltb, eqb-true, eq-eqb, false≢true, both_ways, not-true, not_from_false, cond_both, cond-true}
+use Rattle.std.specs.List.{AllByRecursion}
+use Rattle.std.proofs.lemmas.Bool.{cases_Bool, and_parts, and_from, lt-ltb, eqb-true, eq-eqb, both_ways, not-true, not_from_false, cond_both, cond-true}
 use Rattle.std.proofs.ByRecursion.{all_kept_by, All-map}
 use Rattle.std.proofs.lemmas.Nat.{pow_pos, xor_lt}
 use Rattle.window.specs.Below.{any_below}
@@ -41,7 +41,7 @@ module _ {C : Type 0} (m : Model C) (keeps : Keeps m) (s : Shape) (sound : Sound
     asked =
         let same : KeyedPlay → Bool = λ p. eqb (column s k r (node_of k p.key)) (column s k r i) in
         let ps : List KeyedPlay = filter same plays in
-        let past : All (λ x. x ≤ clock) (map (λ p. p.stamp) ps) = All-map (λ x. x ≤ clock) (λ p. p.stamp) ps (all_kept_by same (λ p. p.stamp ≤ clock) plays heard.past) in
+        let past : AllByRecursion (λ x. x ≤ clock) (map (λ p. p.stamp) ps) = All-map (λ x. x ≤ clock) (λ p. p.stamp) ps (all_kept_by same (λ p. p.stamp ≤ clock) plays heard.past) in
         let e = keeps.list_ends_with_last (cell_of s cells d k i r) (stamps_of s plays k r (column s k r i)) own.stands in
         let l = last_le clock 0 (map (λ p. p.stamp) ps) (omega arith) past in
         record { in_time = omega (arith, permitted.in_time); some = permitted.some; within = omega (arith, own.window, permitted.within) }

@@ -1,9 +1,8 @@
 -- Each key of a range lies in exactly one of its pieces, so counts over the pieces add up.
-use Rattle.std.proofs.Common.{◌≡◌, ℕ, zero, suc, ◌+◌, ◌-◌, ◌*◌, ◌/◌, ◌%◌, ◌^◌, ◌<◌, ◌≤◌, Bool, true, false, cond, not, ◌&&◌, ◌||◌, eqb, ltb, leb, ◌⊎◌, List, [], ◌∷◌, count_by, sym, refl, ap, ◌∙◌, subst, inl, inr, ⊎_elim, mul-le-mul_right, add-one, arith}
+use Rattle.std.proofs.Common.{◌≡◌, ℕ, zero, suc, ◌+◌, ◌-◌, ◌*◌, ◌/◌, ◌^◌, ◌<◌, ◌≤◌, Bool, true, false, cond, not, ◌&&◌, ◌||◌, eqb, leb, List, [], ◌∷◌, count_by, sym, refl, ap, ◌∙◌, mul-le-mul_right, add-one, arith}
 use native.Mathlib.Nat.{pow-succ'}
-use Rattle.std.specs.List.{AllByRecursion as All}
-use Rattle.std.proofs.lemmas.Bool.{cases_Bool, cases_eq, and_parts, and_from, leb-true, le-leb, eqb-true, eqb-false, ne_eqb, eq-eqb, false≢true}
-use Rattle.std.proofs.lemmas.Bool.Decides.{nat_tests}
+use Rattle.std.specs.List.{AllByRecursion}
+use Rattle.std.proofs.lemmas.Bool.{and_parts, and_from, leb-true, le-leb, ne_eqb, eq-eqb, false≢true}
 use Rattle.std.proofs.lemmas.Nat.{pow_pos, shr-shr, shr_below}
 use Rattle.sketch.specs.Extremes.{sum_below}
 use Rattle.sketch.specs.Layout.{nodes, node_of, first_key, last_key}
@@ -120,7 +119,7 @@ module _ {X : Type 0} (bits a b : ℕ) (passes : X → Bool) (key : X → ℕ) w
   one_play true x h = key_once bits a b x h
   one_play false x h = over_none bits a b (λ k i. 0) (λ k i. refl)
 
-  pub pieces_add : (xs : List X) → All (λ x. key x < 2 ^ bits) xs → over_pieces bits a b (λ k i. count_by (λ x. passes x && eqb (node_of k (key x)) i) xs) ≡ count_by (λ x. passes x && (leb a (key x) && leb (key x) b)) xs
+  pub pieces_add : (xs : List X) → AllByRecursion (λ x. key x < 2 ^ bits) xs → over_pieces bits a b (λ k i. count_by (λ x. passes x && eqb (node_of k (key x)) i) xs) ≡ count_by (λ x. passes x && (leb a (key x) && leb (key x) b)) xs
   pieces_add [] h = over_none bits a b (λ k i. 0) (λ k i. refl)
   pieces_add (x ∷ xs) h =
       let split = over_adds bits a b

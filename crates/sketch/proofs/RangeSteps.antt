@@ -7,7 +7,7 @@ use Rattle.sketch.specs.Layout.{Shape}
 use Rattle.sketch.specs.Pieces.{is_piece, over_level}
 use Rattle.sketch.specs.Nodes.{node_low, node_high}
 use Rattle.sketch.specs.Answers.{refusing_cells, NamesRefusing, RangeAnswer}
-use Rattle.sketch.proofs.Walk.{Walked, walked_none, walked_more, summed_more, two_ends, ends_apart, ends_met}
+use Rattle.sketch.proofs.Walk.{Walked, walked_none, walked_more, summed_more, ends_apart, ends_met}
 
 -- low, high and willingness, as far as the levels below k say; each level adds two numbers of 32 bits at most
 pub record Ranged {C : Type 0} (m : Model C) (s : Shape) (cells : List C) (enrolled t v a b k lo hi low high : ℕ) : Type 0 where

@@ -1,5 +1,5 @@
 -- Telling a key's cells one row after another, and what the cells then stand for.
-use Rattle.std.proofs.Common.{◌≡◌, ℕ, ◌+◌, ◌*◌, ◌<◌, ◌≤◌, List, length, get_or, set, Ok, Err, Result, sym, refl, ap, ◌∙◌, subst, subst₂, ⊎_elim, arith}
+use Rattle.std.proofs.Common.{◌≡◌, ℕ, ◌+◌, ◌*◌, ◌<◌, ◌≤◌, List, length, get_or, set, Ok, Err, Result, sym, refl, ap, ◌∙◌, subst, ⊎_elim, arith}
 use Rattle.std.proofs.lemmas.Nat.{mul-add-lt}
 use Rattle.std.proofs.lemmas.List.{length-set, get_or-set_same, get_or-set_other}
 use Rattle.std.proofs.lemmas.Bool.{cases_eq}
@@ -9,9 +9,8 @@ use Rattle.window.specs.Meaning.{Model}
 use Rattle.window.specs.Faults.{number, take_causes, Arrived, Took}
 use Rattle.sketch.specs.declared.faults.CellFault.{CellFault}
 use Rattle.sketch.specs.Layout.{Shape, Sound, width, node_of, column, place}
-use Rattle.sketch.specs.Nodes.{cell_at, cell_of}
 use Rattle.sketch.specs.Answers.{PassedOn}
-use Rattle.sketch.specs.Telling.{order, key_place, ToldFrom, NamesFirst, TellsFrom}
+use Rattle.sketch.specs.Telling.{order, key_place, ToldFrom, NamesFirst}
 use Rattle.sketch.proofs.Cells.{place_same}
 use Rattle.sketch.proofs.NodeLaws.{column_below}
 

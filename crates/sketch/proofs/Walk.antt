@@ -1,12 +1,12 @@
 -- The pieces of a level are at most two: the ends of the range, as they rise from level to level.
-use Rattle.std.proofs.Common.{◌≡◌, ℕ, zero, suc, ◌+◌, ◌-◌, ◌*◌, ◌/◌, ◌%◌, ◌^◌, ◌<◌, ◌≤◌, Bool, true, false, cond, not, ◌&&◌, ◌||◌, eqb, ltb, leb, ◌⊎◌, sym, refl, ap, ◌∙◌, subst, inl, inr, ⊎_elim, mul-le-mul_right, add-one, arith, pow_mono}
-use Rattle.std.proofs.lemmas.Bool.{cases_Bool, cases_eq, cases_lt, and_parts, and_from, leb-true, le-leb, ltb-true, lt-ltb, eqb-true, eqb-false, ne_eqb, eq-eqb, le-ltb, false≢true, cond_both, cond-true, cond-false}
+use Rattle.std.proofs.Common.{◌≡◌, ℕ, ◌+◌, ◌-◌, ◌*◌, ◌/◌, ◌%◌, ◌^◌, ◌<◌, ◌≤◌, Bool, true, false, cond, not, ◌&&◌, ◌||◌, eqb, ltb, leb, sym, refl, ap, ◌∙◌, ⊎_elim, arith, pow_mono}
+use Rattle.std.proofs.lemmas.Bool.{cases_eq, cases_lt, and_parts, and_from, leb-true, le-leb, ltb-true, lt-ltb, ne_eqb, eq-eqb, le-ltb, cond-true, cond-false}
 use Rattle.std.proofs.lemmas.Bool.Decides.{nat_tests}
 use Rattle.std.proofs.lemmas.Nat.{pow_pos}
 use Rattle.sketch.specs.Extremes.{sum_below}
 use Rattle.sketch.specs.Layout.{nodes, first_key, last_key}
-use Rattle.sketch.specs.Pieces.{inside, is_piece, over_level, over_pieces}
-use Rattle.sketch.proofs.Sums.{sum_same, sum_adds, sum_none, sum_one, sum_more}
+use Rattle.sketch.specs.Pieces.{inside, is_piece, over_level}
+use Rattle.sketch.proofs.Sums.{sum_adds, sum_none, sum_one, sum_more}
 use Rattle.sketch.proofs.Weaker.{and_true}
 use Rattle.sketch.proofs.Partition.{twice_pow}
 

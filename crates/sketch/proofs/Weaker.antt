@@ -1,6 +1,6 @@
 -- Counting with a weaker test counts no less; the live stamps of what a test keeps.
-use Rattle.std.proofs.Common.{◌≡◌, ℕ, zero, suc, ◌+◌, ◌-◌, ◌<◌, ◌≤◌, Bool, true, false, cond, not, ◌&&◌, List, [], ◌∷◌, ◌++◌, map, length, sum_by, count_by, filter, sym, refl, ap, ◌∙◌, arith}
-use Rattle.std.specs.List.{ContainsAt as Has, AllByRecursion as All}
+use Rattle.std.proofs.Common.{◌≡◌, ℕ, ◌+◌, ◌≤◌, Bool, true, false, cond, ◌&&◌, List, [], ◌∷◌, map, count_by, filter, refl, arith}
+use Rattle.std.specs.List.{AllByRecursion}
 use Rattle.std.proofs.lemmas.List.Sums.{sum_by-cons}
 use Rattle.std.proofs.lemmas.Bool.{false≢true, and_right}
 use Rattle.window.specs.Stamps.{is_live, live_count, last_or}
@@ -19,7 +19,7 @@ cond_le false true h = omega arith
 cond_le false false h = omega arith
 
 -- a weaker test counts no less, over what P holds of
-pub countBy_weaker : {X : Type 0} (P : X → Type 0) (p q : X → Bool) (xs : List X) → All P xs → ((x : X) → P x → p x ≡ true → q x ≡ true) → count_by p xs ≤ count_by q xs
+pub countBy_weaker : {X : Type 0} (P : X → Type 0) (p q : X → Bool) (xs : List X) → AllByRecursion P xs → ((x : X) → P x → p x ≡ true → q x ≡ true) → count_by p xs ≤ count_by q xs
 countBy_weaker P p q [] a h = omega arith
 countBy_weaker P p q (x ∷ xs) a h =
     omega (arith, countBy_cons p x xs, countBy_cons q x xs, cond_le (p x) (q x) (h x a.0), countBy_weaker P p q xs a.1 h)
@@ -38,6 +38,6 @@ live_kept t v stamp test (x ∷ xs) =
     omega (arith, live_kept_cons t v stamp (test x) x (filter test xs), live_kept t v stamp test xs, countBy_cons (λ x. is_live t v (stamp x) && test x) x xs)
 
 -- the last of numbers none of which is above n
-pub last_le : (n a : ℕ) (xs : List ℕ) → a ≤ n → All (λ x. x ≤ n) xs → last_or a xs ≤ n
+pub last_le : (n a : ℕ) (xs : List ℕ) → a ≤ n → AllByRecursion (λ x. x ≤ n) xs → last_or a xs ≤ n
 last_le n a [] h all = h
 last_le n a (x ∷ xs) h all = last_le n x xs all.0 all.1

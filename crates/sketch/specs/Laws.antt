@@ -1,6 +1,6 @@
 -- What holds of estimates where the cells stand for the plays.
-use Rattle.std.specs.Prelude.{◌≡◌, ℕ, ◌+◌, ◌*◌, ◌<◌, ◌≤◌, cond, List, [], ◌∷◌, ◌++◌, Ok, Err, Result}
-use Rattle.std.specs.List.{AllByRecursion as All}
+use Rattle.std.specs.Prelude.{◌≡◌, ℕ, ◌+◌, ◌*◌, ◌<◌, ◌≤◌, cond, List, Ok, Err, Result}
+use Rattle.std.specs.List.{AllByRecursion}
 use Rattle.window.specs.Meaning.{Model, Stands, Permitted}
 use Rattle.sketch.specs.declared.faults.CellFault.{CellFault}
 use Rattle.sketch.specs.Layout.{Shape, width, keys}
@@ -21,8 +21,8 @@ Faithful {C} m s cells plays = (d : C) (k r col : ℕ) → k ≤ s.bits → r < 
 -- the plays are of enrolled keys, and none is after the clock
 pub record Heard (s : Shape) (enrolled clock : ℕ) (plays : List KeyedPlay) : Type 0 where
   pub room : enrolled ≤ keys s
-  pub known : All (λ p. p.key < enrolled) plays
-  pub past : All (λ p. p.stamp ≤ clock) plays
+  pub known : AllByRecursion (λ p. p.key < enrolled) plays
+  pub past : AllByRecursion (λ p. p.stamp ≤ clock) plays
 
 -- the count of a node that has a clear row, and 0 of any other
 abbrev pub clear_count : Shape → ℕ → List KeyedPlay → ℕ → ℕ → ℕ → ℕ → ℕ

@@ -1,4 +1,6 @@
 // Rows, levels and pieces: which cells answer for which keys, and what a node and a key range are estimated to.
+#![tactic(auto)]
+
 pub mod estimates;
 pub mod faults;
 pub mod laws;

@@ -1,4 +1,6 @@
 // The sketch on examples: each is proved to end, and run.
+#![tactic(auto)]
+
 #[cfg(test)]
 mod helpers;
 

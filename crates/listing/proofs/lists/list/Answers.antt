@@ -4,30 +4,30 @@ use Rattle.sketch.specs.Layout.{shape_of}
 use Rattle.listing.specs.Answers.{MissAnswer, EntryAnswer, ListAnswer}
 use Rattle.listing.proofs.Drafts.{Drafted, drafted_none, drafted_all, reached_all, list_refused, drafted_missed, drafted_unlisted, drafted_listed}
 use Rattle.listing.proofs.lists.list.Goals as goal
-use Rattle.listing.proofs.lists.list.Goals.{in-Some-2, in-default-2}
+use Rattle.listing.proofs.lists.list.Goals.{in-Some-2, in_default-2}
 
 pub loop-key-init : goal.loop-key-init
 loop-key-init g c =
     let q = c.args.question.now in
     drafted_none g.C.Counter.model (shape_of q.sketch.now) q.cells.now q.enrolled q.t q.v c.args.g q.sketch.now.bits_range q.room c.args.found.now c.told-found
 
-pub returns-in-err-level : goal.returns-in-err-level
-returns-in-err-level g c =
+pub returns-in_err-level : goal.returns-in_err-level
+returns-in_err-level g c =
     let q = c.args.question.now in
     let s = shape_of q.sketch.now in
     let m = g.C.Counter.model in
-    let p = err_from_is_err_and c.from-residual.result c.from-residual.ensures.1 in
-    let refused = c.in-err-level.ensures.answered in
-    let f = c.in-err-level.field-0.0 in
+    let p = err_from_is_err_and c.from_residual.result c.from_residual.ensures.1 in
+    let refused = c.in_err-level.ensures.answered in
+    let f = c.in_err-level.field-0.0 in
     let level : f.level ≤ s.bits = omega (arith, refused.1) in
     let named = list_refused m s q.cells.now q.enrolled q.t q.v c.args.g q.sketch.now.bits_range q.room c.loop-key.key c.loop-key.many c.loop-key.found c.loop-key.invariant c.loop-key-test.true f level refused.2 refused.3 in
     record { answered = subst (ListAnswer m s q.cells.now q.enrolled q.t q.v c.args.g c.loop-key.found) (sym (p.1 ∙ ap Err p.2)) named }
 
-pub key-after-key-requires : goal.key-after-key-requires
-key-after-key-requires g c =
+pub key_after-key-requires : goal.key_after-key-requires
+key_after-key-requires g c =
     let q = c.args.question.now in
     let s = shape_of q.sketch.now in
-    let missed = subst (λ o. MissAnswer g.C.Counter.model s q.cells.now q.t q.v c.args.g c.loop-key.key (Ok o)) c.in-Some.is c.in-ok-level.ensures.answered in
+    let missed = subst (λ o. MissAnswer g.C.Counter.model s q.cells.now q.t q.v c.args.g c.loop-key.key (Ok o)) c.in-Some.is c.in_ok-level.ensures.answered in
     let tight : 2 ^ s.bits ≤ 2 ^ 10 = pow_mono q.sketch.now.bits_range in
     record { key = omega (arith, q.room, c.loop-key-test.true); level = omega (arith, missed.1, q.sketch.now.bits_range) }
 
@@ -37,9 +37,9 @@ loop-key-preserved-in-Some g c =
     let s = shape_of q.sketch.now in
     let m = g.C.Counter.model in
     let k = c.in-Some.level in
-    let missed = subst (λ o. MissAnswer m s q.cells.now q.t q.v c.args.g c.loop-key.key (Ok o)) c.in-Some.is c.in-ok-level.ensures.answered in
+    let missed = subst (λ o. MissAnswer m s q.cells.now q.t q.v c.args.g c.loop-key.key (Ok o)) c.in-Some.is c.in_ok-level.ensures.answered in
     let level : k ≤ s.bits = omega (arith, missed.1) in
-    drafted_missed m s q.cells.now q.enrolled q.t q.v c.args.g q.sketch.now.bits_range q.room c.loop-key.key c.loop-key.many c.loop-key.found c.loop-key.invariant c.loop-key-test.true k c.key-after-key.result level c.key-after-key.ensures.next
+    drafted_missed m s q.cells.now q.enrolled q.t q.v c.args.g q.sketch.now.bits_range q.room c.loop-key.key c.loop-key.many c.loop-key.found c.loop-key.invariant c.loop-key-test.true k c.key_after-key.result level c.key_after-key.ensures.next
     (λ d. (missed.2 d).0)
     (λ d. reached_all m s q.cells.now q.enrolled q.t q.v c.args.g q.sketch.now.bits_range q.room c.loop-key.key c.loop-key.many c.loop-key.found c.loop-key.invariant c.loop-key-test.true d (k + 1) (missed.2 d).2)
     (λ d. (missed.2 d).1)
@@ -55,14 +55,14 @@ loop-key-preserved g c =
     let q = c.args.question.now in
     let s = shape_of q.sketch.now in
     let m = g.C.Counter.model in
-    let reached = subst (λ o. MissAnswer m s q.cells.now q.t q.v c.args.g c.loop-key.key (Ok o)) c.in-default.is c.in-ok-level.ensures.answered in
+    let reached = subst (λ o. MissAnswer m s q.cells.now q.t q.v c.args.g c.loop-key.key (Ok o)) c.in_default.is c.in_ok-level.ensures.answered in
     elim c.match-branch-4.branch [
       | in-Some-2 w ↦
-          let got = subst (λ o. EntryAnswer m s q.cells.now q.enrolled q.t q.v c.args.g c.loop-key.key (Ok o)) w.in-Some-2.is c.in-ok-listed.ensures.answered in
+          let got = subst (λ o. EntryAnswer m s q.cells.now q.enrolled q.t q.v c.args.g c.loop-key.key (Ok o)) w.in-Some-2.is c.in_ok-listed.ensures.answered in
           subst₂ (Drafted m s q.cells.now q.enrolled q.t q.v c.args.g (c.loop-key.key + 1)) (sym w.many-is) (sym w.found-is)
           (drafted_listed m s q.cells.now q.enrolled q.t q.v c.args.g q.sketch.now.bits_range q.room c.loop-key.key c.loop-key.many c.loop-key.found c.loop-key.invariant c.loop-key-test.true w.in-Some-2.listed reached got)
-      | in-default-2 w ↦
-          let missed = subst (λ o. EntryAnswer m s q.cells.now q.enrolled q.t q.v c.args.g c.loop-key.key (Ok o)) w.in-default-2.is c.in-ok-listed.ensures.answered in
+      | in_default-2 w ↦
+          let missed = subst (λ o. EntryAnswer m s q.cells.now q.enrolled q.t q.v c.args.g c.loop-key.key (Ok o)) w.in_default-2.is c.in_ok-listed.ensures.answered in
           subst₂ (Drafted m s q.cells.now q.enrolled q.t q.v c.args.g (c.loop-key.key + 1)) (sym w.many-is) (sym w.found-is)
           (drafted_unlisted m s q.cells.now q.enrolled q.t q.v c.args.g q.sketch.now.bits_range q.room c.loop-key.key c.loop-key.many c.loop-key.found c.loop-key.invariant c.loop-key-test.true reached missed)
     ]

@@ -8,8 +8,8 @@ bounds-self-place g c =
     let s = shape_of c.args.self.now.sketch.now in
     omega (arith, c.place-place.ensures.at, c.args.self.now.sized, place_below s c.args.level c.args.row c.args.column c.requires.level c.requires.row c.requires.column)
 
-pub offset-bounds-self-place : goal.offset-bounds-self-place
-offset-bounds-self-place g c =
+pub offset_bounds-self-place : goal.offset_bounds-self-place
+offset_bounds-self-place g c =
     let s = shape_of c.args.self.now.sketch.now in
     let within : c.place-place.result < length c.args.self.now.cells.now = omega (arith, c.place-place.ensures.at, c.args.self.now.sized, place_below s c.args.level c.args.row c.args.column c.requires.level c.requires.row c.requires.column) in
     search rules
@@ -24,5 +24,5 @@ returns g c =
     record {
       counted = cell_counted g.C.Counter.model s cells c.args.level c.args.row c.args.column self.t self.v (get_or cells at c.index-self-place.result)
           (read_cell s cells c.args.level c.args.row c.args.column at c.index-self-place.result c.place-place.ensures.at within)
-          c.count.result c.at-cell.result c.count.ensures.counted c.at-cell.ensures.passed;
+          c.count.result c.at_cell.result c.count.ensures.counted c.at_cell.ensures.passed;
     }

@@ -18,8 +18,8 @@ loop-other-init g c =
     let s = c.args.self.now.sketch.now in
     (refl, sym (mixed_none s.words ((c.args.level * s.rows + c.rows.row) * s.bits) s.bits))
 
-pub column-after-column-requires : goal.column-after-column-requires
-column-after-column-requires g c =
+pub column_after-column-requires : goal.column_after-column-requires
+column_after-column-requires g c =
     let self = c.args.self.now in
     let few : 2 ^ self.sketch.now.bits ≤ 2 ^ 10 = pow_mono self.sketch.now.bits_range in
     let covers : c.loop-other.other < covering self.enrolled c.args.level = omega (arith, c.covering-other-end.ensures.many, c.loop-other-test.true) in
@@ -32,8 +32,8 @@ rows-preserved-then-shares g c =
     let j = c.loop-other.other in
     let covers : j < covering self.enrolled c.args.level = omega (arith, c.covering-other-end.ensures.many, c.loop-other-test.true) in
     let within = covering_key s.bits self.enrolled c.args.level j c.requires.level self.room covers in
-    let next = column_followed s c.args.level c.rows.row j c.loop-other.column c.column-after-column.result c.runs-runs.result self.sketch.now.bits_range within c.runs-runs.ensures.running c.loop-other.invariant.1 c.column-after-column.ensures.first c.column-after-column.ensures.later in
-    let same = columns_same s c.args.level c.rows.row c.args.node j c.column-own.result c.column-after-column.result c.shares.result c.column-own.ensures.mixed next c.shares.ensures.same in
+    let next = column_followed s c.args.level c.rows.row j c.loop-other.column c.column_after-column.result c.runs-runs.result self.sketch.now.bits_range within c.runs-runs.ensures.running c.loop-other.invariant.1 c.column_after-column.ensures.first c.column_after-column.ensures.later in
+    let same = columns_same s c.args.level c.rows.row c.args.node j c.column-own.result c.column_after-column.result c.shares.result c.column-own.ensures.mixed next c.shares.ensures.same in
     low_shared s self.enrolled c.args.level c.args.node c.args.lows.now c.rows.row c.rows.low c.rows.invariant
     (not_clear s self.enrolled c.args.level c.rows.row c.args.node j c.requires.level self.room covers (same ∙ c.if-shares.true))
 
@@ -44,8 +44,8 @@ loop-other-preserved g c =
     let j = c.loop-other.other in
     let covers : j < covering self.enrolled c.args.level = omega (arith, c.covering-other-end.ensures.many, c.loop-other-test.true) in
     let within = covering_key s.bits self.enrolled c.args.level j c.requires.level self.room covers in
-    let next = column_followed s c.args.level c.rows.row j c.loop-other.column c.column-after-column.result c.runs-runs.result self.sketch.now.bits_range within c.runs-runs.ensures.running c.loop-other.invariant.1 c.column-after-column.ensures.first c.column-after-column.ensures.later in
-    let same = columns_same s c.args.level c.rows.row c.args.node j c.column-own.result c.column-after-column.result c.shares.result c.column-own.ensures.mixed next c.shares.ensures.same in
+    let next = column_followed s c.args.level c.rows.row j c.loop-other.column c.column_after-column.result c.runs-runs.result self.sketch.now.bits_range within c.runs-runs.ensures.running c.loop-other.invariant.1 c.column_after-column.ensures.first c.column_after-column.ensures.later in
+    let same = columns_same s c.args.level c.rows.row c.args.node j c.column-own.result c.column_after-column.result c.shares.result c.column-own.ensures.mixed next c.shares.ensures.same in
     let here : j ≡ j + 1 - 1 = omega arith in
     (any_more (same_column s c.args.level c.rows.row c.args.node) j ∙ or_from _ _ (same ∙ c.if-shares.false) c.loop-other.invariant.0, next ∙ ap (column s c.args.level c.rows.row) here)
 

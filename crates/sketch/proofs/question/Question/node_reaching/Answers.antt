@@ -6,4 +6,4 @@ use Rattle.sketch.proofs.question.Question.node_reaching.Goals as goal
 pub returns : goal.returns
 returns g c =
     let self = c.args.self.now in
-    record { answered = (omega arith, node_from_rows g.C.Counter.model (shape_of self.sketch.now) self.cells.now self.t self.v c.args.level c.args.node self.enrolled c.low.result c.in-ok-lows.lows c.in-ok-lows.high c.low.ensures.largest c.in-ok-lows.ensures.answered) }
+    record { answered = (omega arith, node_from_rows g.C.Counter.model (shape_of self.sketch.now) self.cells.now self.t self.v c.args.level c.args.node self.enrolled c.low.result c.in_ok-lows.lows c.in_ok-lows.high c.low.ensures.largest c.in_ok-lows.ensures.answered) }

@@ -1,4 +1,4 @@
-use Rattle.std.proofs.Common.{◌≡◌, ◌+◌, ◌-◌, ◌/◌, ◌%◌, ◌≤◌, eqb, Ok, Err, sym, refl, ap, ◌∙◌, subst, subst₂, arith, rules}
+use Rattle.std.proofs.Common.{◌≡◌, ◌+◌, ◌-◌, ◌/◌, ◌≤◌, Ok, Err, sym, ap, ◌∙◌, subst, subst₂, arith, rules}
 use Rattle.std.proofs.lemmas.Result.{err_from_is_err_and}
 use Rattle.sketch.specs.Extremes.{sum_below}
 use Rattle.sketch.specs.Layout.{shape_of}
@@ -10,7 +10,7 @@ use Rattle.sketch.proofs.Walk.{first_is_piece, last_is_piece}
 use Rattle.sketch.proofs.Lawfulness.{range_lawful}
 use Rattle.sketch.proofs.RangeSteps.{Ranged, ranged_none, ranged_more, ranged_met, range_refused}
 use Rattle.sketch.proofs.question.Question.range.Goals as goal
-use Rattle.sketch.proofs.question.Question.range.Goals.{then-lo-hi+in-ok-low-a+in-ok-low-b, else-lo-hi}
+use Rattle.sketch.proofs.question.Question.range.Goals.{then-lo-hi+in_ok-low_a+in_ok-low_b, else-lo-hi}
 
 pub loop-level-init : goal.loop-level-init
 loop-level-init g c =
@@ -25,45 +25,45 @@ loop-level-preserved g c =
     let kb : c.loop-level.level ≤ s.bits = omega arith in
     let above : Ranged m s self.cells.now self.enrolled self.t self.v c.args.first c.args.last (c.loop-level.level + 1) ((c.loop-level.lo + 1) / 2) (c.loop-level.hi / 2) c.if-lo-hi.low c.if-lo-hi.high =
     elim c.if-lo-hi.branch [
-      | then-lo-hi+in-ok-low-a+in-ok-low-b w ↦
-          let first = w.in-ok-low-a.ensures.answered in
-          let last = w.in-ok-low-b.ensures.answered in
+      | then-lo-hi+in_ok-low_a+in_ok-low_b w ↦
+          let first = w.in_ok-low_a.ensures.answered in
+          let last = w.in_ok-low_b.ensures.answered in
           ranged_more m s self.cells.now self.enrolled self.t self.v c.args.first c.args.last c.loop-level.level c.loop-level.lo c.loop-level.hi c.loop-level.low c.loop-level.high kb c.loop-level.invariant
-          w.in-ok-low-a.low-a w.in-ok-low-a.high-a w.in-ok-low-b.low-b w.in-ok-low-b.high-b c.if-lo-hi.low c.if-lo-hi.high w.if-lo-hi.true
+          w.in_ok-low_a.low_a w.in_ok-low_a.high_a w.in_ok-low_b.low_b w.in_ok-low_b.high_b c.if-lo-hi.low c.if-lo-hi.high w.if-lo-hi.true
           (omega arith) (omega arith) (search rules) (search rules)
           (λ d. record { low_is = (first d).1; high_is = (first d).2; willing = (first d).0 }) (λ d. record { low_is = (last d).1; high_is = (last d).2; willing = (last d).0 })
-          (omega (arith, w.low_is, w.from.ensures, w.from-then-lo-hi.ensures)) (omega (arith, w.high-is, w.from-then-lo-hi-2.ensures, w.from-then-lo-hi-3.ensures))
-      | else-lo-hi w ↦ let low = w.low_is in let high = w.high-is in
+          (omega (arith, w.low-is, w.from.ensures, w.from-then-lo-hi.ensures)) (omega (arith, w.high-is, w.from-then-lo-hi-2.ensures, w.from-then-lo-hi-3.ensures))
+      | else-lo-hi w ↦ let low = w.low-is in let high = w.high-is in
           subst₂ (Ranged m s self.cells.now self.enrolled self.t self.v c.args.first c.args.last (c.loop-level.level + 1) ((c.loop-level.lo + 1) / 2) (c.loop-level.hi / 2)) (sym low) (sym high)
           (ranged_met m s self.cells.now self.enrolled self.t self.v c.args.first c.args.last c.loop-level.level c.loop-level.lo c.loop-level.hi c.loop-level.low c.loop-level.high kb c.loop-level.invariant w.if-lo-hi.false)
     ] in
-    subst₂ (λ lo hi. Ranged m s self.cells.now self.enrolled self.t self.v c.args.first c.args.last (c.loop-level.level + 1) lo hi c.if-lo-hi.low c.if-lo-hi.high) (sym c.ends-above.ensures.first) (sym c.ends-above.ensures.last) above
+    subst₂ (λ lo hi. Ranged m s self.cells.now self.enrolled self.t self.v c.args.first c.args.last (c.loop-level.level + 1) lo hi c.if-lo-hi.low c.if-lo-hi.high) (sym c.ends_above.ensures.first) (sym c.ends_above.ensures.last) above
 
-pub returns-in-err-low-a : goal.returns-in-err-low-a
-returns-in-err-low-a g c =
+pub returns-in_err-low_a : goal.returns-in_err-low_a
+returns-in_err-low_a g c =
     let self = c.args.self.now in
     let sound = sound_of self.sketch.now in
     let s = shape_of self.sketch.now in
     let m = g.C.Counter.model in
-    let p = err_from_is_err_and c.from-residual.result c.from-residual.ensures.1 in
-    let refused = c.in-err-low-a.ensures.answered in
+    let p = err_from_is_err_and c.from_residual.result c.from_residual.ensures.1 in
+    let refused = c.in_err-low_a.ensures.answered in
     let kb : c.loop-level.level ≤ s.bits = omega arith in
-    let named = range_refused m s self.cells.now self.enrolled self.t self.v c.args.first c.args.last c.loop-level.level c.loop-level.lo c.in-err-low-a.field-0.0 kb (first_is_piece s.bits c.args.first c.args.last c.loop-level.level c.loop-level.lo c.loop-level.hi c.loop-level.invariant.walked c.if-lo-hi.true refused.0) refused.1 in
+    let named = range_refused m s self.cells.now self.enrolled self.t self.v c.args.first c.args.last c.loop-level.level c.loop-level.lo c.in_err-low_a.field-0.0 kb (first_is_piece s.bits c.args.first c.args.last c.loop-level.level c.loop-level.lo c.loop-level.hi c.loop-level.invariant.walked c.if-lo-hi.true refused.0) refused.1 in
     let answered = subst (RangeAnswer m s self.cells.now self.enrolled self.t self.v c.args.first c.args.last) (sym (p.1 ∙ ap Err p.2)) named in
-    record { answered = answered; lawful = range_lawful m g.met.C.Counter.keeps s sound self.cells.now (omega (arith, self.sized, some_cells s sound)) self.enrolled self.t self.v c.args.first c.args.last c.from-residual.result answered }
+    record { answered = answered; lawful = range_lawful m g.met.C.Counter.keeps s sound self.cells.now (omega (arith, self.sized, some_cells s sound)) self.enrolled self.t self.v c.args.first c.args.last c.from_residual.result answered }
 
-pub returns-in-err-low-b : goal.returns-in-err-low-b
-returns-in-err-low-b g c =
+pub returns-in_err-low_b : goal.returns-in_err-low_b
+returns-in_err-low_b g c =
     let self = c.args.self.now in
     let sound = sound_of self.sketch.now in
     let s = shape_of self.sketch.now in
     let m = g.C.Counter.model in
-    let p = err_from_is_err_and c.from-residual-in-err-low-b.result c.from-residual-in-err-low-b.ensures.1 in
-    let refused = c.in-err-low-b.ensures.answered in
+    let p = err_from_is_err_and c.from_residual-in_err-low_b.result c.from_residual-in_err-low_b.ensures.1 in
+    let refused = c.in_err-low_b.ensures.answered in
     let kb : c.loop-level.level ≤ s.bits = omega arith in
-    let named = range_refused m s self.cells.now self.enrolled self.t self.v c.args.first c.args.last c.loop-level.level (c.loop-level.hi - 1) c.in-err-low-b.field-0.0 kb (last_is_piece s.bits c.args.first c.args.last c.loop-level.level c.loop-level.lo c.loop-level.hi c.loop-level.invariant.walked c.if-lo-hi.true refused.0) refused.1 in
+    let named = range_refused m s self.cells.now self.enrolled self.t self.v c.args.first c.args.last c.loop-level.level (c.loop-level.hi - 1) c.in_err-low_b.field-0.0 kb (last_is_piece s.bits c.args.first c.args.last c.loop-level.level c.loop-level.lo c.loop-level.hi c.loop-level.invariant.walked c.if-lo-hi.true refused.0) refused.1 in
     let answered = subst (RangeAnswer m s self.cells.now self.enrolled self.t self.v c.args.first c.args.last) (sym (p.1 ∙ ap Err p.2)) named in
-    record { answered = answered; lawful = range_lawful m g.met.C.Counter.keeps s sound self.cells.now (omega (arith, self.sized, some_cells s sound)) self.enrolled self.t self.v c.args.first c.args.last c.from-residual-in-err-low-b.result answered }
+    record { answered = answered; lawful = range_lawful m g.met.C.Counter.keeps s sound self.cells.now (omega (arith, self.sized, some_cells s sound)) self.enrolled self.t self.v c.args.first c.args.last c.from_residual-in_err-low_b.result answered }
 
 pub returns : goal.returns
 returns g c =

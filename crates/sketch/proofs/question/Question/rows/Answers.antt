@@ -12,13 +12,13 @@ count-requires g c =
     let s = c.args.self.now.sketch.now in
     record { level = c.requires.level; row = c.loop-row-test.true; column = omega (arith, c.column-column.ensures.mixed, column_below (shape_of s) (sound_of s) c.args.level c.loop-row.row c.args.node) }
 
-pub returns-in-err-least : goal.returns-in-err-least
-returns-in-err-least g c =
+pub returns-in_err-least : goal.returns-in_err-least
+returns-in_err-least g c =
     let self = c.args.self.now in
     let s = shape_of self.sketch.now in
     let m = g.C.Counter.model in
-    let p = err_from_is_err_and c.from-residual.result c.from-residual.ensures.1 in
-    let named = own_refused m s self.cells.now self.t self.v c.args.level c.args.node c.loop-row.row c.column-column.result c.in-err-least.field-0.0 c.column-column.ensures.mixed c.loop-row-test.true c.in-err-least.ensures.counted in
+    let p = err_from_is_err_and c.from_residual.result c.from_residual.ensures.1 in
+    let named = own_refused m s self.cells.now self.t self.v c.args.level c.args.node c.loop-row.row c.column-column.result c.in_err-least.field-0.0 c.column-column.ensures.mixed c.loop-row-test.true c.in_err-least.ensures.counted in
     record { answered = subst (RowsAnswer m s self.cells.now self.t self.v c.args.level c.args.node) (sym (p.1 ∙ ap Err p.2)) named }
 
 pub loop-row-preserved : goal.loop-row-preserved
@@ -27,8 +27,8 @@ loop-row-preserved g c =
     let s = shape_of self.sketch.now in
     let m = g.C.Counter.model in
     let within : c.loop-row.row < 4 = omega (arith, c.loop-row-test.true, self.sketch.now.rows_range) in
-    let counted = own_counted m s self.cells.now self.t self.v c.args.level c.args.node c.loop-row.row c.column-column.result c.in-ok-least.least c.in-ok-least.most c.column-column.ensures.mixed c.in-ok-least.ensures.counted in
-    rows_more m s self.cells.now self.t self.v c.args.level c.args.node c.loop-row.row c.loop-row.lows c.loop-row.high c.lowest-high.result c.in-ok-least.least c.in-ok-least.most c.loop-row.invariant within counted c.lowest-high.ensures.first c.lowest-high.ensures.later
+    let counted = own_counted m s self.cells.now self.t self.v c.args.level c.args.node c.loop-row.row c.column-column.result c.in_ok-least.least c.in_ok-least.most c.column-column.ensures.mixed c.in_ok-least.ensures.counted in
+    rows_more m s self.cells.now self.t self.v c.args.level c.args.node c.loop-row.row c.loop-row.lows c.loop-row.high c.lowest-high.result c.in_ok-least.least c.in_ok-least.most c.loop-row.invariant within counted c.lowest-high.ensures.first c.lowest-high.ensures.later
 
 pub returns : goal.returns
 returns g c =

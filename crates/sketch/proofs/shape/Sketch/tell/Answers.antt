@@ -1,4 +1,4 @@
-use Rattle.std.proofs.Common.{◌≡◌, ◌+◌, ◌*◌, subst, arith}
+use Rattle.std.proofs.Common.{◌≡◌, subst, arith}
 use Rattle.sketch.specs.Layout.{shape_of}
 use Rattle.sketch.specs.Telling.{order, TellsFrom}
 use Rattle.sketch.proofs.Cells.{sound_of}
@@ -11,5 +11,5 @@ returns g c =
     let s = shape_of self in
     let m = g.C.Counter.model in
     let start : order s 0 0 ≡ 0 = omega arith in
-    let tells = subst (λ n. TellsFrom m s c.args.key c.args.t n c.args.cells.now c.tell-from.new.cells c.tell-from.result) start c.tell-from.ensures.tells in
-    record { tells = tells; faithful = tells_faithful m s (sound_of self) c.args.key c.args.t c.args.cells.now c.tell-from.new.cells c.tell-from.result tells }
+    let tells = subst (λ n. TellsFrom m s c.args.key c.args.t n c.args.cells.now c.tell_from.new.cells c.tell_from.result) start c.tell_from.ensures.tells in
+    record { tells = tells; faithful = tells_faithful m s (sound_of self) c.args.key c.args.t c.args.cells.now c.tell_from.new.cells c.tell_from.result tells }
