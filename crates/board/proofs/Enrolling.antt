@@ -1,5 +1,5 @@
 -- A serial that is enrolled anew, and the register then.
-use Rattle.std.proofs.Common.{◌≡◌, ℕ, ◌+◌, ◌<◌, ◌≤◌, Bool, true, false, cond, not, ltb, leb, List, [], ◌∷◌, ◌++◌, map, length, get_or, take, set, Some, None, Option, sym, refl, ap, ◌∙◌, arith}
+use Rattle.std.proofs.Common.{◌≡◌, ℕ, ◌+◌, ◌<◌, ◌≤◌, Bool, true, false, cond, not, ltb, leb, List, [], ◌∷◌, ◌++◌, map, length, get_or, take, set, Some, None, ap, ◌∙◌, arith}
 use lib.Seq.{take-set-le}
 use Rattle.std.proofs.lemmas.List.{map_push, take_more, get_or-set_same, length-set}
 use Rattle.std.proofs.lemmas.Bool.{cond-true, cond-false, not_from_true, lt-ltb, le-ltb, le-leb, lt-leb}

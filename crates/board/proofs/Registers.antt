@@ -1,6 +1,6 @@
 -- Serial bytes, and the key of a serial among records.
 use Rattle.std.proofs.Common.{◌≡◌, ℕ, zero, suc, ◌+◌, ◌<◌, ◌≤◌, Bool, true, false, cond, not, leb, List, [], ◌∷◌, length, get_or, take, Some, None, Ok, Err, Decides, sym, refl, ap, ◌∙◌, one-add, arith}
-use Rattle.std.specs.List.{AllByRecursion as All}
+use Rattle.std.specs.List.{AllByRecursion}
 use Rattle.std.proofs.ByRecursion.{All-get_or, All-from_get_or, Decides-by_and}
 use Rattle.std.proofs.lemmas.Bool.{both_ways, cond-true, cond-false, lt-leb, le-leb, not_from_true}
 use Rattle.daybook.specs.Book.{Serial, same_bytes, key_in}
@@ -11,7 +11,7 @@ use Rattle.board.specs.Causes.{known_causes}
 use Rattle.board.specs.Outcomes.{KeyUnless}
 use Rattle.board.specs.declared.faults.Refusal.TheVariants.{NotEnrolled}
 
-bytes_decide : (bytes : List ℕ) → Decides (all_serial_bytes bytes) (All (λ b. is_serial_byte b ≡ true) bytes)
+bytes_decide : (bytes : List ℕ) → Decides (all_serial_bytes bytes) (AllByRecursion (λ b. is_serial_byte b ≡ true) bytes)
 bytes_decide bytes = Decides-by_and is_serial_byte (λ b. is_serial_byte b ≡ true) all_serial_bytes (λ b. ((λ e. e), (λ e. e))) refl (λ _ _. refl) bytes
 
 pub all_bytes : (bytes : List ℕ) → ((k : ℕ) → k < length bytes → is_serial_byte (get_or bytes k 0) ≡ true) → true ≡ all_serial_bytes bytes

@@ -1,5 +1,5 @@
 -- Causes tested one after the other, and what a call that is turned away answers.
-use Rattle.std.proofs.Common.{◌≡◌, ℕ, ◌<◌, ◌≤◌, Bool, List, ◌++◌, length, Ok, Err, Result, sym, ap, ◌∙◌, subst, arith}
+use Rattle.std.proofs.Common.{◌≡◌, ℕ, ◌<◌, ◌≤◌, List, ◌++◌, length, Ok, Err, Result, sym, ap, ◌∙◌, subst, arith}
 use Rattle.window.specs.Causes.{Admitted, Refused}
 use Rattle.window.proofs.Refusals.{admitted_then, refused_first}
 use Rattle.sketch.specs.declared.faults.CellFault.{CellFault}

@@ -1,5 +1,5 @@
 -- Opening a board.
-use Rattle.std.specs.Prelude.{◌≡◌, ℕ, ◌+◌, ◌-◌, ◌*◌, ◌^◌, ◌<◌, ◌≤◌, Bool, true, not, ◌&&◌, ◌||◌, ltb, List, [], ◌∷◌, ◌++◌, length, get_or, replicate, Ok, Err, Result, ◌==◌, nat_le, nat_lt, slice_index, slice_index_or}
+use Rattle.std.specs.Prelude.{◌≡◌, ℕ, ◌+◌, ◌-◌, ◌*◌, ◌^◌, ◌<◌, ◌≤◌, Bool, true, not, ◌&&◌, List, [], ◌∷◌, ◌++◌, length, replicate, Ok, Err, Result, ◌==◌, nat_le, nat_lt, slice_index, slice_index_or}
 use Rattle.std.specs.List.{prefix_len}
 use Rattle.window.specs.Meaning.{Model, Fresh}
 use Rattle.sketch.specs.declared.shape.Sketch.{Sketch}
@@ -22,7 +22,7 @@ is_sized a words cells records =
 
 -- how many words stand before the first that is no column
 abbrev pub first_wide : ℕ → List ℕ → ℕ
-first_wide width words = prefix_len (λ x. ltb x width) words
+first_wide width words = prefix_len (λ x. nat_lt x width) words
 
 -- why an opening is refused
 abbrev pub open_causes : Dimensions → List ℕ → (cells records : ℕ) → List Cause
@@ -59,7 +59,7 @@ pub record OpenedAs {C : Type 0} (m : Model C) (a : Dimensions) (words : List �
   pub clock : after.clock ≡ 0
   pub accepted : after.accepted ≡ 0
   pub fresh_cells : (k : ℕ) (d : C) → k < length cells → Fresh m a.window a.fineness (slice_index_or cells k d)
-  pub empty_records : (k : ℕ) (d : Record) → k < length records → (get_or records k d).serial ≡ replicate 16 0
+  pub empty_records : (k : ℕ) (d : Record) → k < length records → (slice_index_or records k d).serial ≡ replicate 16 0
   pub begins : Run m (state_of after cells records) []
 
 -- no cell is asked when a board is opened

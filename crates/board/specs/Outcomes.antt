@@ -1,5 +1,5 @@
 -- What each call answers, and what it leaves.
-use Rattle.std.specs.Prelude.{◌≡◌, ℕ, ◌+◌, ◌<◌, List, [], ◌∷◌, ◌++◌, length, Ok, Err, Result, slice_set}
+use Rattle.std.specs.Prelude.{◌≡◌, ℕ, ◌+◌, ◌<◌, List, length, Ok, Err, Result, slice_set}
 use Rattle.window.specs.Causes.{Admitted, Refused}
 use Rattle.sketch.specs.declared.faults.CellFault.{CellFault}
 use Rattle.window.specs.Meaning.{Model}

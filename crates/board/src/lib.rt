@@ -1,4 +1,6 @@
 // A board: its calls, each with what it promises, and one call that serves any of them.
+#![tactic(auto)]
+
 mod asks;
 pub mod calls;
 mod checks;

@@ -1,5 +1,5 @@
 // Opening: the one call on a board that is not opened.
-ghost use Rattle.std.specs.Prelude.{◌≡◌, ℕ, ◌-◌, ◌^◌, ◌<◌, ◌≤◌, true, false, ◌++◌, length, get_or, replicate, slice_index_or};
+ghost use Rattle.std.specs.Prelude.{◌≡◌, ℕ, ◌-◌, ◌^◌, ◌<◌, ◌≤◌, true, false, ◌++◌, length, replicate, slice_index_or};
 ghost use Rattle.window.specs.Meaning.{Fresh};
 ghost use Rattle.board.specs.Causes.{Tested};
 ghost use Rattle.board.specs.Outcomes.{Outcome};
@@ -108,7 +108,7 @@ fn renew<C: Counter>(cells: &mut [C], window: u32, fineness: u8)
 
 // Empties every record.
 fn empty(register: &mut [Record])
-    ensures empty { (k : ℕ) (d : OneRecord) → k < length register.new → (get_or register.new k d).serial ≡ replicate 16 0 }
+    ensures empty { (k : ℕ) (d : OneRecord) → k < length register.new → (slice_index_or register.new k d).serial ≡ replicate 16 0 }
 {
     for record in register.iter_mut() {
         *record = Record { serial: [0; 16] };

@@ -1,4 +1,6 @@
 // A board on examples, over each counter: every test is proved to be safe and to end, and then run.
+#![tactic(auto)]
+
 #[cfg(test)]
 mod halls;
 #[cfg(test)]
@@ -20,16 +22,16 @@ mod tests {
 
     // An example with twelve cells of each counter in turn, and a register of five records.
     macro_rules! on_each {
-        ($example:ident) => {{
-            $example(&mut [Ring::make(1, 1); 12], &mut [EMPTY; 5])?;
-            $example(&mut [Histogram::make(1, 1); 12], &mut [EMPTY; 5])?;
-            $example(&mut [Wave::make(1, 1); 12], &mut [EMPTY; 5])
+        ($rt:ident, $example:ident) => {{
+            $example(&$rt, &mut [Ring::make(1, 1); 12], &mut [EMPTY; 5])?;
+            $example(&$rt, &mut [Histogram::make(1, 1); 12], &mut [EMPTY; 5])?;
+            $example(&$rt, &mut [Wave::make(1, 1); 12], &mut [EMPTY; 5])
         }};
     }
 
     #[test]
-    fn a_shape_number_out_of_range_is_refused() -> Result<(), Fail> {
-        on_each!(shapes_out_of_range)
+    fn a_shape_number_out_of_range_is_refused(rt: HostRuntime) -> Result<(), Fail> {
+        on_each!(rt, shapes_out_of_range)
     }
 
     #[test]
@@ -58,23 +60,23 @@ mod tests {
     }
 
     #[test]
-    fn a_closed_board_refuses_every_call() -> Result<(), Fail> {
-        on_each!(nothing_before_opening)
+    fn a_closed_board_refuses_every_call(rt: HostRuntime) -> Result<(), Fail> {
+        on_each!(rt, nothing_before_opening)
     }
 
     #[test]
-    fn serials_are_tested_in_turn() -> Result<(), Fail> {
-        on_each!(serials)
+    fn serials_are_tested_in_turn(rt: HostRuntime) -> Result<(), Fail> {
+        on_each!(rt, serials)
     }
 
     #[test]
-    fn times_spans_and_keys_are_tested_in_turn() -> Result<(), Fail> {
-        on_each!(times)
+    fn times_spans_and_keys_are_tested_in_turn(rt: HostRuntime) -> Result<(), Fail> {
+        on_each!(rt, times)
     }
 
     #[test]
-    fn a_list_without_room_says_how_much_it_needs() -> Result<(), Fail> {
-        on_each!(lists_without_room)
+    fn a_list_without_room_says_how_much_it_needs(rt: HostRuntime) -> Result<(), Fail> {
+        on_each!(rt, lists_without_room)
     }
 
     #[test]
@@ -85,22 +87,22 @@ mod tests {
     }
 
     #[test]
-    fn a_full_cell_further_on_is_named() -> Result<(), Fail> {
-        on_each!(full_cell_further_on)
+    fn a_full_cell_further_on_is_named(rt: HostRuntime) -> Result<(), Fail> {
+        on_each!(rt, full_cell_further_on)
     }
 
     #[test]
-    fn every_byte_of_a_serial_counts() -> Result<(), Fail> {
-        on_each!(twins)
+    fn every_byte_of_a_serial_counts(rt: HostRuntime) -> Result<(), Fail> {
+        on_each!(rt, twins)
     }
 
     #[test]
-    fn a_board_can_be_opened_again() -> Result<(), Fail> {
-        on_each!(opened_again)
+    fn a_board_can_be_opened_again(rt: HostRuntime) -> Result<(), Fail> {
+        on_each!(rt, opened_again)
     }
 
     #[test]
-    fn a_list_keeps_to_its_places() -> Result<(), Fail> {
-        on_each!(listed)
+    fn a_list_keeps_to_its_places(rt: HostRuntime) -> Result<(), Fail> {
+        on_each!(rt, listed)
     }
 }

@@ -53,37 +53,42 @@ pub fn full_cells<C: Counter>(
 
 // One cell was told from outside until it was full: it is named, though a play comes to others first, and those take nothing.
 pub fn full_cell_further_on<C: Counter>(
+    rt: &impl Abort,
     cells: &mut [C],
     register: &mut [Record],
 ) -> Result<(), Fail> {
     let mut board = Board::closed();
     open_with(&mut board, cells, register, 2)?;
-    assert!(cells.len() == 12);
+    assert!(rt; cells.len() == 12);
     for _ in 0..5000 {
         let mut told = cells[6];
         let _ = told.take(10);
         cells[6] = told;
     }
     let later = Err(full(1, 1, 0, 10));
-    assert_eq!(play(&mut board, cells, register, &serial(b'A'), 10), later);
-    assert_eq!(cells[0].taken(), 0);
-    assert_eq!(cells[2].taken(), 0);
-    assert_eq!(board.accepted, 0);
+    assert_eq!(rt; play(&mut board, cells, register, &serial(b'A'), 10), later);
+    assert_eq!(rt; cells[0].taken(), 0);
+    assert_eq!(rt; cells[2].taken(), 0);
+    assert_eq!(rt; board.accepted, 0);
     Ok(())
 }
 
 // Serials that differ in the last byte only are two cabinets.
-pub fn twins<C: Counter>(cells: &mut [C], register: &mut [Record]) -> Result<(), Fail> {
+pub fn twins<C: Counter>(
+    rt: &impl Abort,
+    cells: &mut [C],
+    register: &mut [Record],
+) -> Result<(), Fail> {
     let mut board = Board::closed();
     open_with(&mut board, cells, register, 2)?;
     play_times(&mut board, cells, register, b'A', 10, 1)?;
     let one = Ok(Answer::Estimate(1, 1));
-    assert_eq!(
+    assert_eq!(rt;
         ask(&mut board, cells, register, &serial(b'A'), 10, 100),
         one
     );
     let none = Ok(Answer::Estimate(0, 0));
-    assert_eq!(
+    assert_eq!(rt;
         ask(&mut board, cells, register, &serial(b'B'), 10, 100),
         none
     );
@@ -91,44 +96,52 @@ pub fn twins<C: Counter>(cells: &mut [C], register: &mut [Record]) -> Result<(),
 }
 
 // A refused opening leaves the board as it was, and an accepted one begins anew.
-pub fn opened_again<C: Counter>(cells: &mut [C], register: &mut [Record]) -> Result<(), Fail> {
+pub fn opened_again<C: Counter>(
+    rt: &impl Abort,
+    cells: &mut [C],
+    register: &mut [Record],
+) -> Result<(), Fail> {
     let mut board = Board::closed();
     open_with(&mut board, cells, register, 2)?;
     play_times(&mut board, cells, register, b'A', 10, 3)?;
     let wide = Dimensions { bits: 11, ..SHAPE };
-    assert_eq!(
+    assert_eq!(rt;
         board.open(wide, &WORDS, cells, register),
         Err(Fault::Board(Refusal::OutOfRange))
     );
     let three = Ok(Answer::Estimate(3, 3));
-    assert_eq!(range(&mut board, cells, register, (0, 3), 10, 100), three);
-    assert_eq!(board.open(SHAPE, &WORDS, cells, register), Ok(12));
+    assert_eq!(rt; range(&mut board, cells, register, (0, 3), 10, 100), three);
+    assert_eq!(rt; board.open(SHAPE, &WORDS, cells, register), Ok(12));
     let none = Ok(Answer::Estimate(0, 0));
-    assert_eq!(range(&mut board, cells, register, (0, 3), 0, 100), none);
+    assert_eq!(rt; range(&mut board, cells, register, (0, 3), 0, 100), none);
     let unknown = Err(Fault::Board(Refusal::NotEnrolled));
-    assert_eq!(
+    assert_eq!(rt;
         ask(&mut board, cells, register, &serial(b'A'), 10, 100),
         unknown
     );
     let first = Ok(Answer::Key(0));
-    assert_eq!(enrol(&mut board, cells, register, &serial(b'B')), first);
+    assert_eq!(rt; enrol(&mut board, cells, register, &serial(b'B')), first);
     Ok(())
 }
 
 // The list has the busy key, and the places after it keep what they held.
-pub fn listed<C: Counter>(cells: &mut [C], register: &mut [Record]) -> Result<(), Fail> {
+pub fn listed<C: Counter>(
+    rt: &impl Abort,
+    cells: &mut [C],
+    register: &mut [Record],
+) -> Result<(), Fail> {
     let mut board = Board::closed();
     open_with(&mut board, cells, register, 2)?;
     play_times(&mut board, cells, register, b'A', 10, 1)?;
     play_times(&mut board, cells, register, b'B', 10, 3)?;
     let mut places: [Listed; 3] = [UNWRITTEN; 3];
-    assert_eq!(
+    assert_eq!(rt;
         list(&mut board, cells, register, &mut places, 3, 10, 100),
         Ok(Answer::Count(1))
     );
-    assert_eq!(places[0].key, 1);
-    assert_eq!(places[0].high, 3);
-    assert_eq!(places[1].key, 77);
-    assert_eq!(places[2].high, 77);
+    assert_eq!(rt; places[0].key, 1);
+    assert_eq!(rt; places[0].high, 3);
+    assert_eq!(rt; places[1].key, 77);
+    assert_eq!(rt; places[2].high, 77);
     Ok(())
 }

@@ -1,16 +1,16 @@
-use Rattle.std.proofs.Common.{◌≡◌, [], sym, ap, ◌∙◌, subst, arith, below_more}
+use Rattle.std.proofs.Common.{[], sym, ap, ◌∙◌, arith, below_more}
 use Rattle.board.specs.Serials.{serials_of}
-use Rattle.daybook.specs.Book.{same_bytes, key_in}
+use Rattle.daybook.specs.Book.{same_bytes}
 use Rattle.board.proofs.Registers.{key_at, key_none, serial_at, serials_number}
 use Rattle.board.proofs.records.key_of.Goals as goal
 
-pub returns-then-is-same : goal.returns-then-is-same
-returns-then-is-same c =
+pub returns-then-is_same : goal.returns-then-is_same
+returns-then-is_same c =
     let records = c.args.records.now in
     let n = c.args.enrolled in
     let i = c.loop-i.i in
     let sought = c.args.sought.now.serial in
-    let here = ap (λ s. same_bytes s sought) (serial_at n records i (record { serial = [] }) c.loop-i-test.true c.requires.within) ∙ sym c.if-is-same.ensures.same in
+    let here = ap (λ s. same_bytes s sought) (serial_at n records i (record { serial = [] }) c.loop-i-test.true c.requires.within) ∙ sym c.if-is_same.ensures.same in
     record { key = key_at (serials_of n records) sought i (omega (arith, serials_number n records c.requires.within)) here c.loop-i.invariant }
 
 pub loop-i-preserved : goal.loop-i-preserved
@@ -19,7 +19,7 @@ loop-i-preserved c =
     let n = c.args.enrolled in
     let i = c.loop-i.i in
     let sought = c.args.sought.now.serial in
-    below_more _ _ c.loop-i.invariant (ap (λ s. same_bytes s sought) (serial_at n records i (record { serial = [] }) c.loop-i-test.true c.requires.within) ∙ sym c.if-is-same.ensures.same)
+    below_more _ _ c.loop-i.invariant (ap (λ s. same_bytes s sought) (serial_at n records i (record { serial = [] }) c.loop-i-test.true c.requires.within) ∙ sym c.if-is_same.ensures.same)
 
 pub returns : goal.returns
 returns c =

@@ -1,4 +1,4 @@
-use Rattle.std.proofs.Common.{◌≡◌, ◌+◌, ◌<◌, true, length, set, refl, ap, ◌∙◌, ap₂, arith}
+use Rattle.std.proofs.Common.{◌≡◌, true, length, set, refl, ap, ◌∙◌, ap₂, arith}
 use Rattle.std.proofs.lemmas.Result.{err_from_is_err_and}
 use Rattle.sketch.specs.Layout.{shape_of}
 use Rattle.daybook.specs.Book.{enrol}
@@ -19,13 +19,13 @@ returns g c =
     let self = c.args.self.now in
     let records = c.args.register.now in
     let bytes = c.args.serial.now in
-    let fresh = c.in-ok-record.ensures.fresh in
+    let fresh = c.in_ok-record.ensures.fresh in
     let left = key_left self (length c.args.cells.now) records bytes fresh.0 in
     let many = serials_number self.enrolled records (omega (arith, left.0, left.1)) in
-    let put = c.put-next.ensures in
+    let put = c.put_next.ensures in
     let register = put.put ∙ ap (set records self.enrolled) fresh.1 in
     let before = state_of self c.args.cells.now records in
-    let after = state_of c.put-next.new.self c.args.cells.now c.put-next.new.register in
+    let after = state_of c.put_next.new.self c.args.cells.now c.put_next.new.register in
     let step : Enrols before bytes after = record {
       room = omega (arith, many, left.0);
       shape = ap shape_of put.sketch;
@@ -39,19 +39,19 @@ returns g c =
       lawful = step_lawful g.C.Counter.model g.met.C.Counter.keeps before after (enrol bytes) true step;
     }
 
-pub put-next-requires : goal.put-next-requires
-put-next-requires g c =
-    let left = key_left c.args.self.now (length c.args.cells.now) c.args.register.now c.args.serial.now c.in-ok-record.ensures.fresh.0 in
+pub put_next-requires : goal.put_next-requires
+put_next-requires g c =
+    let left = key_left c.args.self.now (length c.args.cells.now) c.args.register.now c.args.serial.now c.in_ok-record.ensures.fresh.0 in
     record { left = left.0; sized = left.1 }
 
-pub returns-in-err-record : goal.returns-in-err-record
-returns-in-err-record g c =
+pub returns-in_err-record : goal.returns-in_err-record
+returns-in_err-record g c =
     let self = c.args.self.now in
     let cells = c.args.cells.now in
     let records = c.args.register.now in
     let bytes = c.args.serial.now in
-    let r = c.from-residual.result in
-    let p = err_from_is_err_and r c.from-residual.ensures.1 in
+    let r = c.from_residual.result in
+    let p = err_from_is_err_and r c.from_residual.ensures.1 in
     let enrolled : EnrolOutcome self self cells records records bytes r =
-    by_board (enrol_causes self (length cells) records bytes) ((self ≡ self) × (records ≡ records)) (EnrolAnswer self self cells records records bytes) r p.0 c.in-err-record.field-0.0 p.1 p.2 c.in-err-record.ensures.fresh (refl, refl) in
+    by_board (enrol_causes self (length cells) records bytes) ((self ≡ self) × (records ≡ records)) (EnrolAnswer self self cells records records bytes) r p.0 c.in_err-record.field-0.0 p.1 p.2 c.in_err-record.ensures.fresh (refl, refl) in
     record { enrolled = enrolled; lawful = enrol_lawful g.C.Counter.model g.met.C.Counter.keeps self self cells records records bytes r enrolled }

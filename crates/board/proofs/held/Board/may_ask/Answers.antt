@@ -1,24 +1,24 @@
 use Rattle.std.proofs.lemmas.Result.{err_from_is_err_and}
-use Rattle.std.proofs.Common.{◌++◌, length, arith}
-use Rattle.board.specs.Causes.{ready_causes, known_causes, time_causes, stamp_causes}
+use Rattle.std.proofs.Common.{◌++◌, length}
+use Rattle.board.specs.Causes.{ready_causes, known_causes, time_causes}
 use Rattle.board.specs.Serials.{serials_of}
-use Rattle.board.proofs.Turning.{first_key, second_key, both_key, then_key, ready_sized}
+use Rattle.board.proofs.Turning.{first_key, then_key, ready_sized}
 use Rattle.board.proofs.held.Board.may_ask.Goals as goal
 
-pub returns-in-err-ready : goal.returns-in-err-ready
-returns-in-err-ready c =
+pub returns-in_err-ready : goal.returns-in_err-ready
+returns-in_err-ready c =
     let self = c.args.self.now in
     let es = serials_of self.enrolled c.args.register.now in
     let bytes = c.args.serial.now in
-    let p = err_from_is_err_and c.from-residual.result c.from-residual.ensures.1 in
-    record { known = first_key (ready_causes self c.args.cells (length c.args.register.now)) (known_causes es bytes ++ time_causes self c.args.t c.args.v) es bytes c.from-residual.result p.0 c.in-err-ready.field-0.0 p.1 p.2 c.in-err-ready.ensures.tested }
+    let p = err_from_is_err_and c.from_residual.result c.from_residual.ensures.1 in
+    record { known = first_key (ready_causes self c.args.cells (length c.args.register.now)) (known_causes es bytes ++ time_causes self c.args.t c.args.v) es bytes c.from_residual.result p.0 c.in_err-ready.field-0.0 p.1 p.2 c.in_err-ready.ensures.tested }
 
-pub known-at-requires : goal.known-at-requires
-known-at-requires c = record { sized = (ready_sized c.args.self.now c.args.cells (length c.args.register.now) c.in-ok-ready.ensures.tested).1 }
+pub known_at-requires : goal.known_at-requires
+known_at-requires c = record { sized = (ready_sized c.args.self.now c.args.cells (length c.args.register.now) c.in_ok-ready.ensures.tested).1 }
 
 pub returns : goal.returns
 returns c =
     let self = c.args.self.now in
     let es = serials_of self.enrolled c.args.register.now in
     let bytes = c.args.serial.now in
-    record { known = then_key (ready_causes self c.args.cells (length c.args.register.now)) (known_causes es bytes ++ time_causes self c.args.t c.args.v) es bytes c.known-at.result c.in-ok-ready.ensures.tested c.known-at.ensures.known }
+    record { known = then_key (ready_causes self c.args.cells (length c.args.register.now)) (known_causes es bytes ++ time_causes self c.args.t c.args.v) es bytes c.known_at.result c.in_ok-ready.ensures.tested c.known_at.ensures.known }

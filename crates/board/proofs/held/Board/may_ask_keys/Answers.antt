@@ -1,17 +1,15 @@
 use Rattle.std.proofs.lemmas.Result.{err_from_is_err_and}
-use Rattle.std.proofs.Common.{◌++◌, length}
-use Rattle.board.specs.Causes.{ready_causes, known_causes, time_causes, keys_causes, stamp_causes}
-use Rattle.board.specs.Serials.{serials_of}
+use Rattle.board.specs.Causes.{time_causes, keys_causes}
 use Rattle.board.proofs.Turning.{first_tested, then_tested}
 use Rattle.board.proofs.held.Board.may_ask_keys.Goals as goal
 
-pub returns-in-err-permits : goal.returns-in-err-permits
-returns-in-err-permits c =
+pub returns-in_err-permits : goal.returns-in_err-permits
+returns-in_err-permits c =
     let self = c.args.self.now in
-    let p = err_from_is_err_and c.from-residual.result c.from-residual.ensures.1 in
-    record { tested = first_tested (time_causes self c.args.t c.args.v) (keys_causes self c.args.first c.args.last) c.from-residual.result p.0 c.in-err-permits.field-0.0 p.1 p.2 c.in-err-permits.ensures.tested }
+    let p = err_from_is_err_and c.from_residual.result c.from_residual.ensures.1 in
+    record { tested = first_tested (time_causes self c.args.t c.args.v) (keys_causes self c.args.first c.args.last) c.from_residual.result p.0 c.in_err-permits.field-0.0 p.1 p.2 c.in_err-permits.ensures.tested }
 
 pub returns : goal.returns
 returns c =
     let self = c.args.self.now in
-    record { tested = then_tested (time_causes self c.args.t c.args.v) (keys_causes self c.args.first c.args.last) c.spans.result c.in-ok-permits.ensures.tested c.spans.ensures.tested }
+    record { tested = then_tested (time_causes self c.args.t c.args.v) (keys_causes self c.args.first c.args.last) c.spans.result c.in_ok-permits.ensures.tested c.spans.ensures.tested }

@@ -1,4 +1,4 @@
-use Rattle.std.proofs.Common.{◌≡◌, ◌+◌, ◌*◌, ◌^◌, [], length, sym, refl, ap, ◌∙◌, subst, arith}
+use Rattle.std.proofs.Common.{◌≡◌, [], length, sym, refl, ap, subst, arith}
 use Rattle.sketch.specs.declared.shape.Sketch.{Sketch}
 use Rattle.sketch.specs.Layout.{shape_of, cell_number, Sound}
 use Rattle.sketch.specs.Laws.{Faithful}
@@ -9,17 +9,17 @@ use Rattle.board.specs.Opening.{SketchOf}
 use Rattle.board.proofs.Beginning.{fits, sized, same_number, fresh_faithful}
 use Rattle.board.proofs.held.Board.open.Goals as goal
 
-pub sketch-of-sketch-requires : goal.sketch-of-sketch-requires
-sketch-of-sketch-requires g c = record { fits = fits c.args.asked c.args.words.now (length c.args.cells.now) (length c.args.register.now) c.in-ok-may-open.ensures.tested }
+pub sketch_of-sketch-requires : goal.sketch_of-sketch-requires
+sketch_of-sketch-requires g c = record { fits = fits c.args.asked c.args.words.now (length c.args.cells.now) (length c.args.register.now) c.in_ok-may_open.ensures.tested }
 
 pub returns : goal.returns
 returns g c =
     let a = c.args.asked in
     let words = c.args.words.now in
-    let admitted = c.in-ok-may-open.ensures.tested in
+    let admitted = c.in_ok-may_open.ensures.tested in
     let fit = fits a words (length c.args.cells.now) (length c.args.register.now) admitted in
-    let made = c.sketch-of-sketch.ensures.made in
-    let sketch = c.sketch-of-sketch.result in
+    let made = c.sketch_of-sketch.ensures.made in
+    let sketch = c.sketch_of-sketch.result in
     let cells = c.renew.new.cells in
     let records = c.empty.new.register in
     let same = same_number a words sketch made in

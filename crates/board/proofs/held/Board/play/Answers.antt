@@ -1,4 +1,4 @@
-use Rattle.std.proofs.Common.{◌≡◌, true, length, Ok, Err, sym, refl, ap, ◌∙◌, subst, arith}
+use Rattle.std.proofs.Common.{◌≡◌, true, length, refl, ap, subst, arith}
 use Rattle.std.proofs.lemmas.Result.{err_from_is_err_and}
 use Rattle.sketch.specs.Layout.{shape_of}
 use Rattle.sketch.specs.Telling.{NamesFirst, ToldFrom}
@@ -13,35 +13,35 @@ use Rattle.board.proofs.Turning.{by_board, by_cell, play_in_time, play_left}
 use Rattle.board.proofs.Lawfully.{play_lawful}
 use Rattle.board.proofs.held.Board.play.Goals as goal
 
-pub returns-in-err-key : goal.returns-in-err-key
-returns-in-err-key g c =
+pub returns-in_err-key : goal.returns-in_err-key
+returns-in_err-key g c =
     let m = g.C.Counter.model in
     let self = c.args.self.now in
     let cells = c.args.cells.now in
     let records = c.args.register.now in
     let bytes = c.args.serial.now in
     let t = c.args.t in
-    let r = c.from-residual.result in
-    let p = err_from_is_err_and r c.from-residual.ensures.1 in
+    let r = c.from_residual.result in
+    let p = err_from_is_err_and r c.from_residual.ensures.1 in
     let played : PlayOutcome m self self cells cells records bytes t r =
-    by_board (play_causes self (length cells) records bytes t) ((self ≡ self) × (cells ≡ cells)) (PlayAnswer m self self cells cells records bytes t) r p.0 c.in-err-key.field-0.0 p.1 p.2 c.in-err-key.ensures.known (refl, refl) in
+    by_board (play_causes self (length cells) records bytes t) ((self ≡ self) × (cells ≡ cells)) (PlayAnswer m self self cells cells records bytes t) r p.0 c.in_err-key.field-0.0 p.1 p.2 c.in_err-key.ensures.known (refl, refl) in
     record { played = played; lawful = play_lawful m g.met.C.Counter.keeps self self cells cells records bytes t r played }
 
-pub returns-in-err-tell : goal.returns-in-err-tell
-returns-in-err-tell g c =
+pub returns-in_err-tell : goal.returns-in_err-tell
+returns-in_err-tell g c =
     let m = g.C.Counter.model in
     let self = c.args.self.now in
     let cells = c.args.cells.now in
     let records = c.args.register.now in
     let bytes = c.args.serial.now in
     let t = c.args.t in
-    let r = c.from-residual-in-err-tell.result in
-    let known = c.in-ok-key.ensures.known in
-    let told = c.in-err-tell.ensures.tells in
-    let p = err_from_is_err_and r c.from-residual-in-err-tell.ensures.1 in
-    let first = subst (λ k. NamesFirst m (shape_of self.sketch) k t 0 cells c.in-err-tell.field-0.0) known.1 told.1 in
+    let r = c.from_residual-in_err-tell.result in
+    let known = c.in_ok-key.ensures.known in
+    let told = c.in_err-tell.ensures.tells in
+    let p = err_from_is_err_and r c.from_residual-in_err-tell.ensures.1 in
+    let first = subst (λ k. NamesFirst m (shape_of self.sketch) k t 0 cells c.in_err-tell.field-0.0) known.1 told.1 in
     let played : PlayOutcome m self self cells c.tell.new.cells records bytes t r =
-    by_cell (play_causes self (length cells) records bytes t) ((self ≡ self) × (c.tell.new.cells ≡ cells)) (PlayAnswer m self self cells c.tell.new.cells records bytes t) r p.0 c.in-err-tell.field-0.0 p.1 p.2 known.0 (refl, told.0, first) in
+    by_cell (play_causes self (length cells) records bytes t) ((self ≡ self) × (c.tell.new.cells ≡ cells)) (PlayAnswer m self self cells c.tell.new.cells records bytes t) r p.0 c.in_err-tell.field-0.0 p.1 p.2 known.0 (refl, told.0, first) in
     record { played = played; lawful = play_lawful m g.met.C.Counter.keeps self self cells c.tell.new.cells records bytes t r played }
 
 pub returns : goal.returns
@@ -52,11 +52,11 @@ returns g c =
     let records = c.args.register.now in
     let bytes = c.args.serial.now in
     let t = c.args.t in
-    let known = c.in-ok-key.ensures.known in
-    let told = subst (λ k. ToldFrom m (shape_of self.sketch) k t 0 cells c.tell.new.cells) known.1 c.in-ok-tell.ensures.tells in
+    let known = c.in_ok-key.ensures.known in
+    let told = subst (λ k. ToldFrom m (shape_of self.sketch) k t 0 cells c.tell.new.cells) known.1 c.in_ok-tell.ensures.tells in
     let before = state_of self cells records in
-    let noted = c.note-play.ensures in
-    let after = state_of c.note-play.new.self c.tell.new.cells records in
+    let noted = c.note_play.ensures in
+    let after = state_of c.note_play.new.self c.tell.new.cells records in
     let step : Plays m before bytes t after = record {
       known = omega (arith, known.1, known.2);
       in_time = play_in_time self (length cells) records bytes t known.0;
@@ -71,5 +71,5 @@ returns g c =
       lawful = step_lawful m g.met.C.Counter.keeps before after (play bytes t) true step;
     }
 
-pub note-play-requires : goal.note-play-requires
-note-play-requires g c = record { few = play_left c.args.self.now (length c.args.cells.now) c.args.register.now c.args.serial.now c.args.t c.in-ok-key.ensures.known.0 }
+pub note_play-requires : goal.note_play-requires
+note_play-requires g c = record { few = play_left c.args.self.now (length c.args.cells.now) c.args.register.now c.args.serial.now c.args.t c.in_ok-key.ensures.known.0 }
