@@ -1,6 +1,6 @@
 -- Seed words drawn one after another.
 use Rattle.std.proofs.Common.{◌≡◌, ℕ, suc, ◌+◌, ◌-◌, ◌<◌, ◌≤◌, List, [], ◌∷◌, ◌++◌, length, take, set, sym, refl, ap, ◌∙◌, subst, append_assoc, append-nil, arith, length-set}
-use Rattle.std.specs.List.{AllByRecursion as All}
+use Rattle.std.specs.List.{AllByRecursion}
 use Rattle.std.proofs.ByRecursion.{All-push}
 use Rattle.std.proofs.lemmas.List.{take_all, take_more_set}
 use Rattle.desk.specs.Seeds.{next, top_bits, words_from}
@@ -9,7 +9,7 @@ use Rattle.desk.specs.Seeds.{next, top_bits, words_from}
 pub record Drawn (seed i x : ℕ) (words : List ℕ) : Type 0 where
   pub long : length words ≡ 60
   pub whole : take i words ++ words_from (60 - i) x ≡ words_from 60 seed
-  pub below : All (λ word. word < 4) (take i words)
+  pub below : AllByRecursion (λ word. word < 4) (take i words)
 
 pub drawn_none : (seed : ℕ) (words : List ℕ) → length words ≡ 60 → Drawn seed 0 seed words
 drawn_none seed words long = record { long = long; whole = refl; below = tt }
@@ -26,13 +26,13 @@ module _ (seed i x : ℕ) (words : List ℕ) (d : Drawn seed i x words) where
       record {
         long = length-set words i w ∙ d.long;
         whole = ap (λ l. l ++ words_from (60 - (i + 1)) y) front ∙ append_assoc (take i words) (w ∷ []) (words_from (60 - (i + 1)) y) ∙ ap (λ l. take i words ++ l) here ∙ d.whole;
-        below = subst (All (λ word. word < 4)) (sym front) (All-push (λ word. word < 4) (take i words) w d.below small);
+        below = subst (AllByRecursion (λ word. word < 4)) (sym front) (All-push (λ word. word < 4) (take i words) w d.below small);
       }
 
   -- all are drawn
-  pub drawn_all : 60 ≤ i → (words ≡ words_from 60 seed) × All (λ word. word < 4) words
+  pub drawn_all : 60 ≤ i → (words ≡ words_from 60 seed) × AllByRecursion (λ word. word < 4) words
   unfolding words_from
   drawn_all far =
       let all : take i words ≡ words = take_all i words (omega (arith, d.long)) in
       let none : 60 - i ≡ 0 = omega arith in
-      (sym all ∙ sym (append-nil (take i words)) ∙ ap (λ n. take i words ++ words_from n x) (sym none) ∙ d.whole, subst (All (λ word. word < 4)) all d.below)
+      (sym all ∙ sym (append-nil (take i words)) ∙ ap (λ n. take i words ++ words_from n x) (sym none) ∙ d.whole, subst (AllByRecursion (λ word. word < 4)) all d.below)

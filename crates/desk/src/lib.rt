@@ -1,2 +1,4 @@
 // The desk: where lines come in and replies go out.
+#![tactic(auto)]
+
 pub mod seeds;

@@ -1,6 +1,6 @@
 // Seed words from one number, by Marsaglia's 32-bit xorshift.
 ghost use Rattle.std.specs.Prelude.{◌≡◌, ◌<◌};
-ghost use Rattle.std.specs.List.{AllByRecursion as All};
+ghost use Rattle.std.specs.List.{AllByRecursion};
 ghost use Rattle.desk.specs.Seeds.{next, top_bits, words_from};
 ghost use Rattle.desk.specs.Worked.{WorkedSeeds};
 
@@ -24,7 +24,7 @@ fn top_bits(x: u32) -> u16
 // The seed words that a board of 32 keys, two rows and four columns wants, from a seed: each below four.
 pub fn seed_words(seed: u32) -> [u16; 60]
     ensures drawn { result ≡ words_from 60 seed }
-    ensures below { All (λ word. word < 4) result }
+    ensures below { AllByRecursion (λ word. word < 4) result }
 {
     let mut words = [0; 60];
     let mut x = seed;

@@ -1,6 +1,6 @@
 -- Names, words and contents are known by their bytes.
-use Rattle.std.proofs.Common.{◌≡◌, ℕ, ◌-◌, ◌^◌, ◌<◌, ◌≤◌, Bool, true, false, cond, ◌&&◌, eqb, leb, List, [], ◌∷◌, ◌++◌, length, get_or, Some, None, decimal, Option, sym, refl, ap, ◌∙◌, subst, ⊎_elim, arith, eq-eqb, ne_eqb, leb-true, MatchOption}
-use Rattle.std.specs.List.{AllByRecursion as All}
+use Rattle.std.proofs.Common.{◌≡◌, ℕ, ◌-◌, ◌^◌, ◌<◌, ◌≤◌, Bool, true, false, cond, eqb, leb, List, [], ◌∷◌, length, get_or, Some, None, decimal, Option, sym, refl, ap, ◌∙◌, ⊎_elim, arith, eq-eqb, ne_eqb, leb-true, MatchOption}
+use Rattle.std.specs.List.{AllByRecursion}
 use Rattle.std.specs.Str.{bytes_eq}
 use Rattle.std.proofs.lemmas.List.{append_cancel_left}
 use Rattle.std.proofs.lemmas.Bool.{cases_eq}
@@ -135,7 +135,7 @@ pub clear_field : (n : Name) (v : Content) → Sound v → NoBlank (field_text n
 clear_field n v h = All-append (λ b. b ≡ 32 → ⊥) (label n) (content_text v) (clear_label n) (clear_content v h)
 
 -- the fields of a line have no blank
-pub clear_fields : (vs : List Content) (ns : List Name) (m : ℕ) → Filled vs ns m → All NoBlank (field_texts vs ns)
+pub clear_fields : (vs : List Content) (ns : List Name) (m : ℕ) → Filled vs ns m → AllByRecursion NoBlank (field_texts vs ns)
 clear_fields [] ns m f = tt
 clear_fields (v ∷ vs) [] m f = absurd f
 clear_fields (v ∷ vs) (n ∷ ns) m f = (clear_field n v f.0.1, clear_fields vs ns (m - 1) f.1)

@@ -1,6 +1,6 @@
 -- A line is cut at its blanks in one way.
-use Rattle.std.proofs.Common.{◌≡◌, ℕ, suc, ◌+◌, ◌-◌, ◌<◌, ◌≤◌, cond, List, [], ◌∷◌, ◌++◌, length, get_or, take, drop, Some, None, Option, sym, refl, ap, ◌∙◌, subst, ⊎_elim, append-nil, arith, Bor, ne_eqb, MatchOption}
-use Rattle.std.specs.List.{AllByRecursion as All}
+use Rattle.std.proofs.Common.{◌≡◌, ℕ, ◌+◌, ◌<◌, ◌≤◌, cond, List, [], ◌∷◌, ◌++◌, length, get_or, take, drop, Some, None, Option, sym, refl, ap, ◌∙◌, subst, ⊎_elim, append-nil, arith, Bor, ne_eqb, MatchOption}
+use Rattle.std.specs.List.{AllByRecursion}
 use Rattle.std.proofs.ByRecursion.{All-from_get_or}
 use Rattle.std.proofs.lemmas.List.{get_or-take, length-take-le, take-append-drop, take_all, drop_more}
 use Rattle.std.proofs.lemmas.Bool.{cases_eq}
@@ -16,18 +16,18 @@ pub cut_front : (p rest : List ℕ) (ps : List (List ℕ)) → NoBlank p → cut
 cut_front [] rest ps clear e = e
 cut_front (b ∷ p) rest ps clear e = cut_other b (p ++ rest) clear.0 ∙ ap (begun_by b) (cut_front p rest ps clear.1 e)
 
-cut_led : (ps : List (List ℕ)) → All NoBlank ps → cut (led ps) ≡ [] ∷ ps
+cut_led : (ps : List (List ℕ)) → AllByRecursion NoBlank ps → cut (led ps) ≡ [] ∷ ps
 cut_led [] clear = refl
 cut_led (p ∷ ps) clear = ap (λ l. [] ∷ l) (cut_front p (led ps) ps clear.0 (cut_led ps clear.1))
 
 -- pieces without blanks are what their line is cut into
-pub cut_spaced : (p : List ℕ) (ps : List (List ℕ)) → NoBlank p → All NoBlank ps → cut (spaced (p ∷ ps)) ≡ p ∷ ps
+pub cut_spaced : (p : List ℕ) (ps : List (List ℕ)) → NoBlank p → AllByRecursion NoBlank ps → cut (spaced (p ∷ ps)) ≡ p ∷ ps
 cut_spaced p ps clear rest = cut_front p (led ps) ps clear (cut_led ps rest)
 
 -- pieces without blanks that make up a line
 Whole : List ℕ → List (List ℕ) → Type 0
 Whole line [] = ⊥
-Whole line (p ∷ ps) = (spaced (p ∷ ps) ≡ line) × All NoBlank (p ∷ ps)
+Whole line (p ∷ ps) = (spaced (p ∷ ps) ≡ line) × AllByRecursion NoBlank (p ∷ ps)
 
 grown : (b : ℕ) (line : List ℕ) (ps : List (List ℕ)) → (b ≡ 32 → ⊥) → Whole line ps → Whole (b ∷ line) (begun_by b ps)
 unfolding Whole
@@ -48,13 +48,13 @@ cut_makes (b ∷ line) =
     (λ h. subst (Whole (b ∷ line)) (sym (cut_other b line h)) (grown b line (cut line) h (cut_makes line)))
     (cases_eq b 32)
 
-made_up : (line : List ℕ) (ps : List (List ℕ)) → Whole line ps → (spaced ps ≡ line) × All NoBlank ps
+made_up : (line : List ℕ) (ps : List (List ℕ)) → Whole line ps → (spaced ps ≡ line) × AllByRecursion NoBlank ps
 unfolding Whole
 made_up line [] w = absurd w
 made_up line (p ∷ ps) w = w
 
 -- the pieces of a line have no blank, and make it up
-pub cut_apart : (line : List ℕ) → (spaced (cut line) ≡ line) × All NoBlank (cut line)
+pub cut_apart : (line : List ℕ) → (spaced (cut line) ≡ line) × AllByRecursion NoBlank (cut line)
 cut_apart line = made_up line (cut line) (cut_makes line)
 
 some : (line : List ℕ) (qs : List (List ℕ)) → Whole line qs → (p : List ℕ) × (ps : List (List ℕ)) × (qs ≡ p ∷ ps)

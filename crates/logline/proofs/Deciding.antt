@@ -1,10 +1,10 @@
 -- A line says one thing, or is refused at one place.
-use Rattle.std.proofs.Common.{◌≡◌, ℕ, ◌+◌, ◌-◌, ◌<◌, ◌≤◌, ◌⊎◌, List, [], ◌∷◌, length, sym, refl, ap, ◌∙◌, subst, inl, inr, ⊎_elim, arith}
+use Rattle.std.proofs.Common.{◌≡◌, ℕ, ◌+◌, ◌-◌, List, [], ◌∷◌, length, sym, refl, ap, ◌∙◌, subst, inl, inr, arith}
 use Rattle.logline.specs.declared.forms.Word.{Word}
 use Rattle.logline.specs.declared.forms.Name.{Name}
 use Rattle.logline.specs.Forms.{head, names, required}
 use Rattle.logline.specs.Pieces.{cut}
-use Rattle.logline.specs.Events.{Content, Filled, field_text, field_texts, Said, saying, text, Says}
+use Rattle.logline.specs.Events.{Content, Filled, field_text, field_texts, Said, saying, Says}
 use Rattle.logline.specs.Refusals.{Departs, NoForm, NotOfForm}
 use Rattle.logline.specs.Reading.{Decided}
 use Rattle.logline.proofs.Cutting.{cut_spaced, cut_apart}

@@ -1,6 +1,6 @@
 -- Bytes put one after another.
 use Rattle.std.proofs.Common.{◌≡◌, ℕ, ◌+◌, ◌-◌, ◌/◌, ◌%◌, ◌^◌, ◌<◌, ◌≤◌, List, [], ◌∷◌, ◌++◌, length, get_or, take, drop, Some, None, Ok, Err, decimal, Result, sym, refl, ap, ◌∙◌, subst, append_assoc, append-nil, arith, length-append}
-use Rattle.std.specs.List.{AllByRecursion as All}
+use Rattle.std.specs.List.{AllByRecursion}
 use Rattle.std.proofs.lemmas.Fmt.{decimal_digit, decimal_step}
 use Rattle.std.proofs.ByRecursion.{All-from_get_or, All-get_or, All-drop}
 use Rattle.std.proofs.lemmas.List.{length-take-le, drop_all}
@@ -11,7 +11,7 @@ use Rattle.logline.specs.declared.events.Event.{Event}
 use Rattle.logline.specs.declared.events.Event.TheVariants.{Open, Enrol, Play, Ask, Range, List as Listing}
 use Rattle.logline.specs.Forms.{head, names, required, shape_of}
 use Rattle.logline.specs.Pieces.{NoBlank, led}
-use Rattle.logline.specs.Events.{Content, content_shape, Sound, Filled, field_text, field_texts, Said, said, text, Sayable}
+use Rattle.logline.specs.Events.{Content, content_shape, Sound, Filled, field_text, field_texts, Said, said, text}
 use Rattle.logline.specs.Writing.{WroteAs}
 use Rattle.logline.specs.Steps.{PutWhen, PutAt, PutSaid}
 
@@ -65,13 +65,13 @@ shaped_short [] ns m h = omega arith
 shaped_short (v ∷ vs) [] m h = absurd h
 shaped_short (v ∷ vs) (n ∷ ns) m h = let k = shaped_short vs ns (m - 1) h.1 in omega arith
 
-shaped_filled : (vs : List Content) (ns : List Name) (m : ℕ) → Shaped vs ns m → All Sound vs → Filled vs ns m
+shaped_filled : (vs : List Content) (ns : List Name) (m : ℕ) → Shaped vs ns m → AllByRecursion Sound vs → Filled vs ns m
 unfolding Shaped
 shaped_filled [] ns m h s = h
 shaped_filled (v ∷ vs) [] m h s = h
 shaped_filled (v ∷ vs) (n ∷ ns) m h s = ((h.0, s.0), shaped_filled vs ns (m - 1) h.1 s.1)
 
-filled_sound : (vs : List Content) (ns : List Name) (m : ℕ) → Filled vs ns m → All Sound vs
+filled_sound : (vs : List Content) (ns : List Name) (m : ℕ) → Filled vs ns m → AllByRecursion Sound vs
 filled_sound [] ns m f = tt
 filled_sound (v ∷ vs) [] m f = absurd f
 filled_sound (v ∷ vs) (n ∷ ns) m f = (f.0.1, filled_sound vs ns (m - 1) f.1)
@@ -81,7 +81,7 @@ pub record Fronts (s : Said) (i at : ℕ) (out : List ℕ) : Type 0 where
   pub long : length out ≡ 96
   pub within : at ≤ 96
   pub whole : take at out ++ led (field_texts (drop i s.contents) (drop i (names s.word))) ≡ text s
-  pub sound : All Sound (drop i s.contents) → All Sound s.contents
+  pub sound : AllByRecursion Sound (drop i s.contents) → AllByRecursion Sound s.contents
 
 module _ (e : Event) (out : List ℕ) where
   abbrev s : Said
@@ -108,7 +108,7 @@ module _ (e : Event) (out : List ℕ) where
         long = long ∙ f.long;
         within = omega (arith, p.2, f.long);
         whole = ap (λ l. l ++ rest) p.3 ∙ append_assoc (take at out) (32 ∷ field_text n v) rest ∙ whole_next;
-        sound = λ h. f.sound (subst (All Sound) (sym fields) (p.0, h));
+        sound = λ h. f.sound (subst (AllByRecursion Sound) (sym fields) (p.0, h));
       }
 
       pub fronts_stop : (after : List ℕ) (fault : LineFault) → PutWhen (Sound v) out at (32 ∷ field_text n v) after (Err fault) → PutSaid s after (Err fault)
@@ -117,7 +117,7 @@ module _ (e : Event) (out : List ℕ) where
         p.0,
         λ can.
             let all = filled_sound s.contents (names s.word) (length (required s.word)) can.filled in
-            let here : All Sound (v ∷ drop (i + 1) s.contents) = subst (All Sound) fields (All-drop Sound i s.contents all) in
+            let here : AllByRecursion Sound (v ∷ drop (i + 1) s.contents) = subst (AllByRecursion Sound) fields (All-drop Sound i s.contents all) in
             let lt = p.1 here.0 in
             let front = length-take-le at out (omega (arith, f.within, f.long)) in
             let total = ap length whole_next in
@@ -130,7 +130,7 @@ module _ (e : Event) (out : List ℕ) where
     fronts_end end =
         let none : drop i s.contents ≡ [] = drop_all i s.contents end in
         let is : take at out ≡ text s = sym (append-nil (take at out)) ∙ ap (λ l. take at out ++ led (field_texts l (drop i (names s.word)))) (sym none) ∙ f.whole in
-        let sounds = f.sound (subst (All Sound) (sym none) tt) in
+        let sounds = f.sound (subst (AllByRecursion Sound) (sym none) tt) in
         let front = length-take-le at out (omega (arith, f.within, f.long)) in
         let long : length (take at out) ≡ length (text s) = ap length is in
         (record { filled = shaped_filled _ _ _ (said_shaped e) sounds; short = omega (arith, f.within) }, omega arith, is)

@@ -1,13 +1,12 @@
 -- An event made from what its fields hold.
-use Rattle.std.proofs.Common.{◌≡◌, ℕ, suc, ◌+◌, ◌-◌, ◌<◌, ◌≤◌, List, [], ◌∷◌, ◌++◌, map, length, get_or, drop, Some, None, Option, sym, refl, ap, ◌∙◌, subst, arith}
+use Rattle.std.proofs.Common.{◌≡◌, ℕ, suc, ◌+◌, ◌-◌, ◌<◌, ◌≤◌, List, [], ◌∷◌, ◌++◌, map, length, get_or, drop, Some, sym, refl, ap, ◌∙◌, subst, arith}
 use Rattle.std.proofs.lemmas.List.{drop-drop, drop-map, drop_more, drop_all}
 use Rattle.logline.specs.declared.forms.Word.{Word}
 use Rattle.logline.specs.declared.forms.Name.{Name}
-use Rattle.logline.specs.declared.forms.Shape.{Shape}
-use Rattle.logline.specs.declared.forms.Shape.TheVariants.{Number, Serial, Letter}
+use Rattle.logline.specs.declared.forms.Shape.TheVariants.{Number}
 use Rattle.logline.specs.declared.fields.Field.{Field}
 use Rattle.logline.specs.Forms.{names, required, optional, shape_of}
-use Rattle.logline.specs.Events.{Content, number, content_shape, Filled, Said, saying, left_out}
+use Rattle.logline.specs.Events.{Content, number, content_shape, Filled, saying}
 use Rattle.logline.specs.Fields.{content_of}
 use Rattle.logline.specs.Steps.{Holds, HoldsLast}
 

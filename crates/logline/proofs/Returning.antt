@@ -1,5 +1,5 @@
 -- What is written is read back, and what is read is written back.
-use Rattle.std.proofs.Common.{◌≡◌, ℕ, ◌≤◌, List, ◌++◌, length, take, drop, Ok, Err, Result, sym, refl, ap, ◌∙◌, subst, arith, MatchResult}
+use Rattle.std.proofs.Common.{◌≡◌, ℕ, ◌≤◌, List, ◌++◌, length, take, drop, Ok, Err, Result, sym, ap, ◌∙◌, arith, MatchResult}
 use Rattle.std.proofs.lemmas.List.{take_at}
 use Rattle.logline.specs.declared.events.Event.{Event}
 use Rattle.logline.specs.declared.fields.Field.{Field}

@@ -1,5 +1,5 @@
 -- Fields taken one after another from what is left of a line.
-use Rattle.std.proofs.Common.{◌≡◌, ℕ, ◌+◌, ◌-◌, ◌<◌, ◌≤◌, ◌⊎◌, List, [], ◌∷◌, ◌++◌, map, length, get_or, take, drop, set, Some, None, Ok, Err, Option, Result, sym, refl, ap, ◌∙◌, subst, inl, inr, append_assoc, append-nil, arith, length-append, length-drop, Bor, MatchResult}
+use Rattle.std.proofs.Common.{◌≡◌, ℕ, ◌+◌, ◌-◌, ◌<◌, ◌≤◌, List, [], ◌∷◌, ◌++◌, map, length, get_or, take, drop, set, Some, None, Ok, Err, Option, Result, sym, refl, ap, ◌∙◌, subst, inl, inr, append_assoc, append-nil, arith, length-append, Bor, MatchResult}
 use Rattle.std.proofs.lemmas.List.{take_at, drop_at, drop-drop, drop_all, drop_more, map_push, take_more_set, length-take-le}
 use Rattle.logline.specs.declared.faults.LineFault.{LineFault}
 use Rattle.logline.specs.declared.faults.LineFault.TheVariants.{Room, Form}
@@ -9,7 +9,7 @@ use Rattle.logline.specs.declared.fields.Field.{Field}
 use Rattle.logline.specs.Forms.{head, names, required, label}
 use Rattle.logline.specs.Pieces.{spaced, cut}
 use Rattle.logline.specs.Events.{Content, Filled, field_text, field_texts, saying, text, Says}
-use Rattle.logline.specs.Refusals.{IsField, Departs, NoForm}
+use Rattle.logline.specs.Refusals.{Departs, NoForm}
 use Rattle.logline.specs.Fields.{content_of, value_bytes, Part, Parts, FieldsOf, Found}
 use Rattle.logline.specs.Steps.{rest_bytes, rest_pieces, ReadFrom, rest_place, Ends, TakenFrom}
 use Rattle.logline.proofs.Cutting.{cut_some, cut_apart}

@@ -1,10 +1,10 @@
 -- A line and its pieces: what stands between blanks.
-use Rattle.std.specs.Prelude.{◌≡◌, ℕ, cond, List, [], ◌∷◌, ◌++◌, ◌==◌, ◌≢◌}
-use Rattle.std.specs.List.{AllByRecursion as All}
+use Rattle.std.specs.Prelude.{ℕ, cond, List, [], ◌∷◌, ◌++◌, ◌==◌, ◌≢◌}
+use Rattle.std.specs.List.{AllByRecursion}
 
 -- bytes without a blank
 abbrev pub NoBlank : List ℕ → Type 0
-NoBlank bs = All (λ b. b ≢ 32) bs
+NoBlank bs = AllByRecursion (λ b. b ≢ 32) bs
 
 -- each piece after a blank of its own
 abbrev pub led : List (List ℕ) → List ℕ

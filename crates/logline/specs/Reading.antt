@@ -1,6 +1,6 @@
 -- What reading a line answers, and that the answer is decided.
 use Rattle.std.specs.Prelude.{◌≡◌, ℕ, List, Ok, Err, Result}
-use Rattle.std.specs.List.{AllByRecursion as All}
+use Rattle.std.specs.List.{AllByRecursion}
 use Rattle.logline.specs.declared.events.Event.{Event}
 use Rattle.logline.specs.declared.faults.LineFault.{LineFault}
 use Rattle.logline.specs.declared.faults.LineFault.TheVariants.{Room, Form}
@@ -19,4 +19,4 @@ pub record Decided (line : List ℕ) : Type 0 where
   pub one_saying : (s t : Said) → Says line s → Says line t → s ≡ t
   pub one_place : (p q : ℕ) → NotOfForm line p → NotOfForm line q → p ≡ q
   pub never_both : (s : Said) (p : ℕ) → Says line s → NotOfForm line p → ⊥
-  pub cut_apart : (spaced (cut line) ≡ line) × All NoBlank (cut line)
+  pub cut_apart : (spaced (cut line) ≡ line) × AllByRecursion NoBlank (cut line)

@@ -1,4 +1,6 @@
 // Log lines: an event read from a line of named fields, and written as one.
+#![tactic(auto)]
+
 ghost use Rattle.logline.specs.Events.{said};
 ghost use Rattle.logline.specs.Reading.{ReadAs, Decided};
 ghost use Rattle.logline.specs.Writing.{WroteAs, ReadsBack, WritesBack};

@@ -1,4 +1,6 @@
 // Answers each line of the input: what it says, the places of its fields and the line written again, or why it is refused.
+#![tactic(auto)]
+
 use logline::{Event, Field, LONGEST, LineFault, MOST, fields_of, read, write};
 use std::alloc::{AllocError, Global};
 use std::io::{BufRead, BufReader, BufWriter, Write};

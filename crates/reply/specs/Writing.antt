@@ -1,6 +1,6 @@
 -- What writing a reply wants, answers and leaves.
 use Rattle.std.specs.Prelude.{◌≡◌, ℕ, ◌^◌, ◌<◌, ◌≤◌, List, ◌++◌, length, drop, Ok, Err, Result}
-use Rattle.std.specs.List.{AllByRecursion as All}
+use Rattle.std.specs.List.{AllByRecursion}
 use Rattle.board.specs.declared.records.Record.{Record}
 use Rattle.listing.specs.declared.Listed.{Listed}
 use Rattle.logline.specs.declared.faults.LineFault.{LineFault}
@@ -11,7 +11,7 @@ use Rattle.reply.specs.Replies.{Said, opened, enrolled, played, counted, listing
 
 -- each listed key has a record, and there are no more of them than 32-bit keys
 pub record Known (register : List Record) (listed : List Listed) : Type 0 where
-  pub keys : All (λ l. l.key < length register) listed
+  pub keys : AllByRecursion (λ l. l.key < length register) listed
   pub few : length listed ≤ 2 ^ 32
 
 -- a reply that can be told: a list names known cabinets

@@ -1,4 +1,6 @@
 // Replies: what a board answers to a line, and the bytes that say it.
+#![tactic(auto)]
+
 ghost use Rattle.reply.specs.Replies.{said};
 ghost use Rattle.reply.specs.Writing.{Tellable, WroteReply, Brief};
 

@@ -6,5 +6,5 @@ use Rattle.logline.proofs.write.Goals as goal
 
 pub returns : goal.returns
 returns c =
-    let done = copied (said c.args.event.now) c.args.out.now c.put-event.new.out c.copy-from-slice.new.self c.in-ok-n.n c.in-ok-n.ensures.put c.copy-from-slice.ensures.after (omega arith) in
-    record { answered = done; reads_back = reads_back (said c.args.event.now) c.args.out.now _ (Ok c.in-ok-n.n) done }
+    let done = copied (said c.args.event.now) c.args.out.now c.put_event.new.out c.copy_from_slice.new.self c.in_ok-n.n c.in_ok-n.ensures.put c.copy_from_slice.ensures.after (omega arith) in
+    record { answered = done; reads_back = reads_back (said c.args.event.now) c.args.out.now _ (Ok c.in_ok-n.n) done }

@@ -1,5 +1,4 @@
 use Rattle.logline.proofs.Rebuilding.{content_there, content_past}
-use Rattle.std.proofs.Common.{rules}
 use Rattle.logline.proofs.events.field_at.Goals as goal
 
 pub returns-then-i-list : goal.returns-then-i-list

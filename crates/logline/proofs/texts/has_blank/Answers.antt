@@ -4,8 +4,8 @@ use Rattle.logline.proofs.texts.has_blank.Goals as goal
 
 pub returns : goal.returns
 returns c =
-    let told = c.before-blank.ensures in
+    let told = c.before_blank.ensures in
     record {
-      clear = λ e. clear_all c.args.serial.now c.before-blank.result told.clear (omega (arith, ltb-false, e));
-      blank = λ e. blank_there c.args.serial.now c.before-blank.result told.stops (omega (arith, ltb-true, e));
+      clear = λ e. clear_all c.args.serial.now c.before_blank.result told.clear (omega (arith, ltb-false, e));
+      blank = λ e. blank_there c.args.serial.now c.before_blank.result told.stops (omega (arith, ltb-true, e));
     }

@@ -12,13 +12,13 @@ put-requires-2 t c =
     let whole = ap length (more_digits n c.if-number-lt10.false (omega arith)) in
     let parts = length-append (decimal (n / 10)) ((48 + n % 10) ∷ []) in
     let few = few_digits n (omega arith) in
-    record { fits = omega (arith, c.put-number-end.ensures.put.behind) }
+    record { fits = omega (arith, c.put_number-end.ensures.put.behind) }
 
 pub returns : goal.returns
 returns t c =
     let n = c.args.number in
     let out = c.args.out.now in
-    let joined = puts_more out c.put-number-end.new.out c.put-2.new.out (decimal (n / 10)) ((48 + n % 10) ∷ []) c.args.at c.put-number-end.result c.put-2.result (omega arith) c.put-number-end.ensures.put c.put-2.ensures.put in
+    let joined = puts_more out c.put_number-end.new.out c.put-2.new.out (decimal (n / 10)) ((48 + n % 10) ∷ []) c.args.at c.put_number-end.result c.put-2.result (omega arith) c.put_number-end.ensures.put c.put-2.ensures.put in
     let whole = subst (λ l. Puts out c.args.at l c.put-2.new.out c.put-2.result) (more_digits n c.if-number-lt10.false (omega arith)) joined in
     let few = few_digits n (omega arith) in
     record { put = whole; within = omega (arith, whole.behind) }

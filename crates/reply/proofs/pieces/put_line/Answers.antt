@@ -28,8 +28,8 @@ all_put was out ps at i end far p = subst (λ l. Puts was at l out end) (ap (fla
 pub loop-piece-init : goal.loop-piece-init
 loop-piece-init c = (puts_none c.args.out.now c.args.at, omega arith)
 
-pub put-piece-end-requires : goal.put-piece-end-requires
-put-piece-end-requires c =
+pub put_piece-end-requires : goal.put_piece-end-requires
+put_piece-end-requires c =
     let ps = c.args.pieces.now in
     let most = c.args.at + pieces_room (map piece_of ps) in
     let before : most < 2 ^ 64 = omega arith in
@@ -37,8 +37,8 @@ put-piece-end-requires c =
 
 pub loop-piece-preserved : goal.loop-piece-preserved
 loop-piece-preserved c = (
-  puts_next text_of c.args.pieces.now c.loop-piece.piece-index _ c.loop-piece-test.true c.args.out.now c.loop-piece.out c.put-piece-end.new.out c.args.at c.loop-piece.end c.put-piece-end.result (omega arith) c.loop-piece.invariant.0 c.put-piece-end.ensures.put,
-  room_after c.args.pieces.now c.loop-piece.piece-index _ c.loop-piece-test.true c.loop-piece.end _ c.loop-piece.invariant.1 c.put-piece-end.result c.put-piece-end.ensures.within,
+  puts_next text_of c.args.pieces.now c.loop-piece.piece-index _ c.loop-piece-test.true c.args.out.now c.loop-piece.out c.put_piece-end.new.out c.args.at c.loop-piece.end c.put_piece-end.result (omega arith) c.loop-piece.invariant.0 c.put_piece-end.ensures.put,
+  room_after c.args.pieces.now c.loop-piece.piece-index _ c.loop-piece-test.true c.loop-piece.end _ c.loop-piece.invariant.1 c.put_piece-end.result c.put_piece-end.ensures.within,
 )
 
 pub put-requires : goal.put-requires

@@ -46,16 +46,16 @@ module _ (was after : List ℕ) (end : ℕ) where
 pub returns-in-List : goal.returns-in-List
 returns-in-List c =
     let out = c.args.out.now in
-    let mid = c.put-head-end.new.out in
-    let after = c.put-cabinets.new.out in
-    let end = c.put-cabinets.result in
+    let mid = c.put_head-end.new.out in
+    let after = c.put_cabinets.new.out in
+    let end = c.put_cabinets.result in
     let register = c.in-List.register in
     let listed = c.in-List.listed in
-    let first = subst (λ r. PutsLine out 0 (head (said r)) mid c.put-head-end.result) c.in-List.is c.put-head-end.ensures.head in
-    let all = puts_more out mid after (line_text (head (said (Lists register listed)))) (flat_map line_text (map cabinet_line (map (cabinet_of register.now) listed.now))) 0 c.put-head-end.result end (omega arith) first.put c.put-cabinets.ensures.put in
+    let first = subst (λ r. PutsLine out 0 (head (said r)) mid c.put_head-end.result) c.in-List.is c.put_head-end.ensures.head in
+    let all = puts_more out mid after (line_text (head (said (Lists register listed)))) (flat_map line_text (map cabinet_line (map (cabinet_of register.now) listed.now))) 0 c.put_head-end.result end (omega arith) first.put c.put_cabinets.ensures.put in
     record { put = subst (λ r. Puts out 0 (text (said r)) after end) (sym c.in-List.is) all; brief = subst (λ r. Brief (said r)) (sym c.in-List.is) tt }
 
-pub returns-in-default : goal.returns-in-default
-returns-in-default c =
-    let told = one_line c.args.out.now c.put-head-end.new.out c.put-head-end.result c.args.reply.now c.in-default.not-List c.put-head-end.ensures.head in
+pub returns-in_default : goal.returns-in_default
+returns-in_default c =
+    let told = one_line c.args.out.now c.put_head-end.new.out c.put_head-end.result c.args.reply.now c.in_default.not-List c.put_head-end.ensures.head in
     record { put = told.0; brief = told.1 }
