@@ -1,3 +1,4 @@
-// What the programs of a hall share: a desk with memory of its own, and lines read one by one.
+// What the programs of a hall share: lines read one by one.
+#![tactic(auto)]
+
 pub mod lines;
-pub mod stands;

@@ -32,12 +32,12 @@ pub struct Lines<R: Read + Drop> {
 }
 
 impl<R: Read + Drop> Lines<R> {
-    pub fn new(heap: Global, input: R) -> Self {
-        Lines {
-            input: BufReader::new(input),
+    pub fn new(heap: Global, input: R) -> Result<Self> {
+        Ok(Lines {
+            input: BufReader::new(heap, input)?,
             held: Vec::new(heap),
             number: 0,
-        }
+        })
     }
 
     // Reads the next line that has bytes; false where the input ends before.
