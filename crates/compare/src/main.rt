@@ -1,4 +1,6 @@
 // One cabinet's evening: play times and questions in, each counter's answers beside the truth out.
+#![tactic(auto)]
+
 mod answer;
 mod course;
 mod lane;

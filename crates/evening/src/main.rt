@@ -1,4 +1,6 @@
 // An evening in a hall of six cabinets: all calls of a board, over each counter, beside the truth.
+#![tactic(auto)]
+
 mod ledger;
 mod stand;
 

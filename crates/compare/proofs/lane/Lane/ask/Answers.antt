@@ -1,15 +1,15 @@
-use Rattle.std.proofs.Common.{◌≡◌, ◌≤◌, min, length, take, vec_items, ap, ◌∙◌, arith, take_all}
+use Rattle.std.proofs.Common.{◌≤◌, min, length, take, vec_items, ap, ◌∙◌, arith, take_all}
 use Rattle.window.specs.Stamps.{live_count}
 use Rattle.compare.proofs.lane.Lane.ask.Goals as goal
 
 -- where the counter stands for the plays, it has taken all of them, so the part that is counted is the whole
 pub returns : goal.returns
 returns g c =
-    let counted = c.in-ok-low.ensures.counted in
+    let counted = c.in_ok-low.ensures.counted in
     let self = c.args.self.now in
     let plays = vec_items self.plays in
     let live = live_count c.args.t c.args.v in
-    let slice = c.live-of-taken-truth.ensures.live ∙ ap (λ xs. live (take (min (length xs) c.taken.result) xs)) c.deref.ensures.value in
+    let slice = c.live_of_taken-truth.ensures.live ∙ ap (λ xs. live (take (min (length xs) c.taken.result) xs)) c.deref.ensures.value in
     record {
       answered = (
         counted.0,
