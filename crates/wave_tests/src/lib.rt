@@ -1,7 +1,13 @@
 // What waves count, executed.
 #![tactic(auto)]
 
+#[cfg(test)]
+use std::process::Abort;
+#[cfg(test)]
+use std::test::Fail;
 use wave::Wave;
+#[cfg(test)]
+use window::stamps::live_among;
 use window::{Counter, CounterFault};
 
 // A wave of fineness 1 over a window of 100 that took 1, 2, .. 7.
@@ -36,13 +42,42 @@ pub fn refusal(r: Result<(), CounterFault>) -> u8 {
     }
 }
 
+// A long run beside the exact list of its stamps, asked after each arrival.
+#[cfg(test)]
+pub fn compare_run(
+    rt: &(impl Abort + AllocGlobal),
+    window: u32,
+    fineness: u8,
+    seed: u32,
+    pace: u32,
+) -> Result<(), Fail> {
+    let mut wave = <Wave as Counter>::make(window, fineness);
+    let mut stamps = Vec::new(rt.alloc());
+    let mut x = seed;
+    let mut t: u32 = 0;
+    for _ in 0..6000 {
+        x = scrambled(x);
+        t = t.saturating_add(x % 16 / pace.max(1));
+        match wave.take(t) {
+            Ok(()) => stamps.push(t)?,
+            Err(fault) => assert_eq!(rt; fault.number(), 14),
+        }
+        x = scrambled(x);
+        let later = t.saturating_add(x % 64);
+        let span = 1 + (x >> 8) % wave.window().max(1);
+        let (low, high) = wave.count(later, span)?;
+        assert!(rt; stamps.len() < 100_000);
+        let live = live_among(&stamps, later, span);
+        assert!(rt; low <= live && live <= high);
+        assert!(rt; u32::from(fineness).wrapping_mul(high.wrapping_sub(low)) <= low);
+    }
+    Ok(())
+}
+
 #[cfg(test)]
 mod tests {
     use super::*;
-    use std::process::Abort;
-    use std::test::Fail;
     use wave::ranks::place_of;
-    use window::stamps::live_among;
 
     #[test]
     fn worked_cases(rt: HostRuntime) -> Result<(), Fail> {
@@ -181,37 +216,6 @@ mod tests {
         assert_eq!(rt; (most.window(), most.fineness()), (9, 6));
         assert_eq!(rt; (most.last(), most.taken(), most.limit()), (0, 0, 4095));
         assert_eq!(rt; most.count(0, 9)?, (0, 0));
-        Ok(())
-    }
-
-    // A long run beside the exact list of its stamps, asked after each arrival.
-    fn compare_run(
-        rt: &(impl Abort + AllocGlobal),
-        window: u32,
-        fineness: u8,
-        seed: u32,
-        pace: u32,
-    ) -> Result<(), Fail> {
-        let mut wave = <Wave as Counter>::make(window, fineness);
-        let mut stamps = Vec::new(rt.alloc());
-        let mut x = seed;
-        let mut t: u32 = 0;
-        for _ in 0..6000 {
-            x = scrambled(x);
-            t = t.saturating_add(x % 16 / pace.max(1));
-            match wave.take(t) {
-                Ok(()) => stamps.push(t)?,
-                Err(fault) => assert_eq!(rt; fault.number(), 14),
-            }
-            x = scrambled(x);
-            let later = t.saturating_add(x % 64);
-            let span = 1 + (x >> 8) % wave.window().max(1);
-            let (low, high) = wave.count(later, span)?;
-            assert!(rt; stamps.len() < 100_000);
-            let live = live_among(&stamps, later, span);
-            assert!(rt; low <= live && live <= high);
-            assert!(rt; u32::from(fineness).wrapping_mul(high.wrapping_sub(low)) <= low);
-        }
         Ok(())
     }
 
