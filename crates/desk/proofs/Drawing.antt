@@ -3,7 +3,8 @@ use Rattle.std.proofs.Common.{◌≡◌, ℕ, suc, ◌+◌, ◌-◌, ◌<◌, �
 use Rattle.std.specs.List.{AllByRecursion}
 use Rattle.std.proofs.ByRecursion.{All-push}
 use Rattle.std.proofs.lemmas.List.{take_all, take_more_set}
-use Rattle.desk.specs.Seeds.{next, top_bits, words_from}
+use Rattle.xorshift.specs.Xorshift.{next}
+use Rattle.desk.specs.Seeds.{top_bits, words_from}
 
 -- the first i words are drawn, x is the number that they end with, and the others come after it
 pub record Drawn (seed i x : ℕ) (words : List ℕ) : Type 0 where

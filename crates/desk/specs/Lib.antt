@@ -1,2 +1,3 @@
+pub use Rattle.xorshift.specs.Xorshift
 pub mod Seeds
 pub mod Worked

@@ -1,17 +1,6 @@
 -- Seed words drawn from a number by 32-bit xorshift.
-use Rattle.std.specs.Prelude.{ℕ, zero, suc, ◌*◌, ◌/◌, ◌%◌, ◌^◌, List, [], ◌∷◌, bit_xor}
-
--- x shifted to the left within 32 bits, and mixed with x
-abbrev pub mixed_left : (k x : ℕ) → ℕ
-mixed_left k x = bit_xor x ((x * 2 ^ k) % 2 ^ 32)
-
--- x shifted to the right, and mixed with x
-abbrev pub mixed_right : (k x : ℕ) → ℕ
-mixed_right k x = bit_xor x (x / 2 ^ k)
-
--- the number after x
-abbrev pub next : ℕ → ℕ
-next x = mixed_left 5 (mixed_right 17 (mixed_left 13 x))
+use Rattle.std.specs.Prelude.{ℕ, zero, suc, ◌/◌, ◌^◌, List, [], ◌∷◌}
+use Rattle.xorshift.specs.Xorshift.{next}
 
 -- the two highest of 32 bits
 abbrev pub top_bits : ℕ → ℕ

@@ -1,6 +1,7 @@
 -- Numbers worked elsewhere.
 use Rattle.std.specs.Prelude.{◌≡◌, [], ◌∷◌}
-use Rattle.desk.specs.Seeds.{next, words_from}
+use Rattle.xorshift.specs.Xorshift.{next}
+use Rattle.desk.specs.Seeds.{words_from}
 
 -- from seed 1 the published generator gives these four numbers, and the words are their highest bits; seed 0 gives words of 0
 pub record WorkedSeeds : Type 0 where

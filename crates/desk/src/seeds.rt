@@ -1,17 +1,10 @@
-// Seed words from one number, by Marsaglia's 32-bit xorshift.
+// Seed words from one number, by 32-bit xorshift.
 ghost use Rattle.std.specs.Prelude.{◌≡◌, ◌<◌};
 ghost use Rattle.std.specs.List.{AllByRecursion};
-ghost use Rattle.desk.specs.Seeds.{next, top_bits, words_from};
+ghost use Rattle.desk.specs.Seeds.{top_bits, words_from};
 ghost use Rattle.desk.specs.Worked.{WorkedSeeds};
 
-// The number after x: three times x is mixed with itself shifted, bits above 32 dropped.
-fn next(x: u32) -> u32
-    ensures next { result ≡ next x }
-{
-    let a = x ^ (x << 13);
-    let b = a ^ (a >> 17);
-    b ^ (b << 5)
-}
+use xorshift::next;
 
 // The two highest bits of a number.
 fn top_bits(x: u32) -> u16

@@ -1,3 +1,2 @@
-pub mod Shifting
 pub mod Trimming
 pub mod Reading

@@ -57,9 +57,6 @@ rises t v last bs a b rest k lt =
     falling_append last bs (b ∷ rest) ∙ and_right (falling last bs) (leb b.stamp (oldest_stamp last bs) && falling b.stamp rest) (and_left _ _ (lt-leb b.stamp (oldest_stamp last bs) (omega (arith, k.top))))
 
 -- buckets of one size, up to place i
-pub reading_none : (t v : ℕ) (a : Tally) → GoesOn t v [] a (Some a)
-reading_none t v a last front k = subst (λ z. Tells t v last z a) (sym (append-nil front)) k
-
 pub reading_more : (t v size i : ℕ) (xs : List ℕ) (a d e : Tally) → i < length xs → GoesOn t v (map (bucket size) (take i xs)) a (Some d) → get_or xs i 0 ≤ d.top → Widened t v size (get_or xs i 0) d e → GoesOn t v (map (bucket size) (take (i + 1) xs)) a (Some e)
 reading_more t v size i xs a d e inside on le w last front k =
     let one : front ++ map (bucket size) (take (i + 1) xs) ≡ (front ++ map (bucket size) (take i xs)) ++ (bucket size (get_or xs i 0) ∷ []) =

@@ -1,19 +1,19 @@
 -- Where stamps never rise, dropping dead ones from the old end leaves the live ones.
-use Rattle.std.proofs.Common.{◌≡◌, ℕ, zero, suc, ◌+◌, ◌-◌, ◌<◌, ◌≤◌, Bool, true, false, List, [], ◌∷◌, ◌++◌, map, length, get_or, take, set, filter, sym, refl, ap, ◌∙◌, subst, ⊎_elim, arith}
-use Rattle.std.specs.List.{AllByRecursion}
-use Rattle.std.proofs.lemmas.List.{append-nil, take-take, length-set, get_or-set_same, get_or-set_other, get_or_default}
+use Rattle.std.proofs.Common.{◌≡◌, ℕ, zero, suc, ◌+◌, ◌-◌, ◌<◌, ◌≤◌, Bool, true, false, not, List, [], ◌∷◌, ◌++◌, map, length, get_or, take, filter, sym, refl, ap, ◌∙◌, ⊎_elim, add-one, arith}
+use Rattle.std.specs.List.{suffix_len}
+use Rattle.std.proofs.lemmas.List.{append-nil, take-take}
 use Rattle.std.proofs.lemmas.List.Elements.{filter_more}
-use Rattle.std.proofs.ByRecursion.{All-get_or, All-from_get_or}
-use Rattle.std.proofs.lemmas.Bool.{cases_Bool, cases_eq, cond-true, cond-false}
+use Rattle.std.proofs.lemmas.List.Sums.{suffix_len-take_yes, suffix_len-take_no}
+use Rattle.std.proofs.lemmas.Bool.{cases_Bool, cond-true, cond-false}
 use Rattle.window.specs.Stamps.{is_live}
 use Rattle.window.proofs.Arrivals.{later_live}
 use Rattle.histogram.specs.declared.levels.Level.{Level}
 use Rattle.histogram.specs.Buckets.{bucket, falling, live_buckets}
-use Rattle.histogram.specs.Histograms.{Places, Trimmed}
+use Rattle.histogram.specs.Histograms.{in_use, Trimmed}
 use Rattle.histogram.specs.Cuts.{falls, falling_cons}
 
 -- a dead one at the end is not kept
-pub kept_shorter : (p : ℕ → Bool) (xs : List ℕ) (n : ℕ) → n < length xs → p (get_or xs n 0) ≡ false → filter p (take (n + 1) xs) ≡ filter p (take n xs)
+kept_shorter : (p : ℕ → Bool) (xs : List ℕ) (n : ℕ) → n < length xs → p (get_or xs n 0) ≡ false → filter p (take (n + 1) xs) ≡ filter p (take n xs)
 kept_shorter p xs n inside e = filter_more p xs n 0 inside ∙ ap (λ z. filter p (take n xs) ++ z) (cond-false (p (get_or xs n 0)) _ _ e) ∙ append-nil _
 
 -- the live buckets of one size are those of the live stamps
@@ -51,15 +51,28 @@ front_kept t v s top (suc n) (x ∷ xs) inside h f e =
 
 -- the dead are gone from the old end, and the oldest left is live
 pub record Trimming (t v : ℕ) (xs : List ℕ) (n k : ℕ) : Type 0 where
-  pub fewer : k ≤ n
   pub same : filter (is_live t v) (take k xs) ≡ filter (is_live t v) (take n xs)
+  pub oldest : 0 < k → is_live t v (get_or xs (k - 1) 0) ≡ true
 
-pub trimming_less : (t v : ℕ) (xs : List ℕ) (n k : ℕ) → Trimming t v xs n k → 0 < k → k ≤ length xs → is_live t v (get_or xs (k - 1) 0) ≡ false → Trimming t v xs n (k - 1)
-trimming_less t v xs n k r some within e =
-    let back : k - 1 + 1 ≡ k = omega arith in record {
-      fewer = omega (arith, r.fewer);
-      same = sym (kept_shorter (is_live t v) xs (k - 1) (omega arith) e) ∙ ap (λ z. filter (is_live t v) (take z xs)) back ∙ r.same;
-    }
+trimming : (t v n k : ℕ) (xs : List ℕ) → n ≤ length xs → k ≡ n - suffix_len (λ s. not (is_live t v s)) (take n xs) → Trimming t v xs n k
+trimming t v zero k xs within e =
+    let none : k ≡ 0 = omega arith in
+    record { same = ap (λ z. filter (is_live t v) (take z xs)) none; oldest = λ some. absurd (omega arith) }
+trimming t v (suc m) k xs within e =
+    let dead : ℕ → Bool = λ s. not (is_live t v s) in
+    let back : suc m - 1 ≡ m = omega arith in
+    let at : get_or xs (suc m - 1) 0 ≡ get_or xs m 0 = ap (λ z. get_or xs z 0) back in
+    ⊎_elim
+    (λ (y : is_live t v (get_or xs m 0) ≡ true).
+    let none : suffix_len dead (take (suc m) xs) ≡ 0 = suffix_len-take_no dead xs (suc m) 0 (omega arith) within (ap dead at ∙ ap not y) in
+    let all : k ≡ suc m = omega arith in
+    record { same = ap (λ z. filter (is_live t v) (take z xs)) all; oldest = λ some. ap (λ z. is_live t v (get_or xs (z - 1) 0)) all ∙ ap (is_live t v) at ∙ y })
+    (λ (d : is_live t v (get_or xs m 0) ≡ false).
+    let one : suffix_len dead (take (suc m) xs) ≡ 1 + suffix_len dead (take (suc m - 1) xs) = suffix_len-take_yes dead xs (suc m) 0 (omega arith) within (ap dead at ∙ ap not d) in
+    let fewer : suffix_len dead (take (suc m - 1) xs) ≡ suffix_len dead (take m xs) = ap (λ z. suffix_len dead (take z xs)) back in
+    let rest = trimming t v m k xs (omega arith) (omega (arith, e, one, fewer)) in
+    record { same = rest.same ∙ sym (kept_shorter (is_live t v) xs m (omega arith) d) ∙ ap (λ z. filter (is_live t v) (take z xs)) (add-one m); oldest = rest.oldest })
+    (cases_Bool (is_live t v (get_or xs m 0)))
 
 all_kept : (t v s top k : ℕ) (xs : List ℕ) → k ≤ length xs → (0 < k → is_live t v (get_or xs (k - 1) 0) ≡ true) → top ≤ t → falling top (map (bucket s) (take k xs)) ≡ true → filter (is_live t v) (take k xs) ≡ take k xs
 all_kept t v s top zero xs within live h f = refl
@@ -67,14 +80,15 @@ all_kept t v s top (suc k) xs within live h f =
     let e : suc k - 1 ≡ k = omega arith in
     front_kept t v s top k xs (omega arith) h f (ap (λ z. is_live t v (get_or xs z 0)) (sym e) ∙ live (omega arith))
 
-pub trimmed : (t v : ℕ) (before after : Level) → Trimming t v before.stamps before.number after.number → after.stamps ≡ before.stamps → after.number ≤ length before.stamps → (0 < after.number → is_live t v (get_or after.stamps (after.number - 1) 0) ≡ true) → Trimmed t v before after
-trimmed t v before after r same within live s top h f =
+-- a level without the buckets that are dead from the oldest on
+pub trimmed : (t v dead : ℕ) (before after : Level) → before.number ≤ length before.stamps → dead ≡ suffix_len (λ s. not (is_live t v s)) (in_use before) → after.number ≡ before.number - dead → after.stamps ≡ before.stamps → Trimmed t v before after
+trimmed t v dead before after within counted left same s top h f =
     let n = before.number in
     let k = after.number in
     let xs = before.stamps in
-    let shorter : falling top (map (bucket s) (take k xs)) ≡ true = ap (λ z. falling top (map (bucket s) z)) (sym (take-take k n xs r.fewer)) ∙ falling_take top s k (take n xs) f in
-    let oldest : 0 < k → is_live t v (get_or xs (k - 1) 0) ≡ true = λ some. ap (λ z. is_live t v (get_or z (k - 1) 0)) (sym same) ∙ live some in
-    ap (λ z. map (bucket s) (take k z)) same ∙ sym (live_run t v s (take n xs) ∙ ap (map (bucket s)) (sym r.same ∙ all_kept t v s top k xs within oldest h shorter))
+    let r = trimming t v n k xs within (omega (arith, left, counted)) in
+    let shorter : falling top (map (bucket s) (take k xs)) ≡ true = ap (λ z. falling top (map (bucket s) z)) (sym (take-take k n xs (omega arith))) ∙ falling_take top s k (take n xs) f in
+    ap (λ z. map (bucket s) (take k z)) same ∙ sym (live_run t v s (take n xs) ∙ ap (map (bucket s)) (sym r.same ∙ all_kept t v s top k xs (omega arith) r.oldest h shorter))
 
 -- the first i levels are trimmed
 pub record Dropped (t v : ℕ) (start now : List Level) (i : ℕ) : Type 0 where
@@ -83,37 +97,3 @@ pub record Dropped (t v : ℕ) (start now : List Level) (i : ℕ) : Type 0 where
   pub rest : (k : ℕ) (d : Level) → i ≤ k → get_or now k d ≡ get_or start k d
   pub fewer : (k : ℕ) (d : Level) → (get_or now k d).number ≤ (get_or start k d).number
   pub stamps : (k : ℕ) (d : Level) → (get_or now k d).stamps ≡ (get_or start k d).stamps
-
-pub dropped_more : (t v : ℕ) (start now : List Level) (i : ℕ) (e l : Level) → Dropped t v start now i → i < length start → l.stamps ≡ (get_or now i e).stamps → l.number ≤ (get_or now i e).number → Trimmed t v (get_or now i e) l → Dropped t v start (set now i l) (i + 1)
-dropped_more t v start now i e l r inside stamps fewer trimmed =
-    let here : (d : Level) → get_or (set now i l) i d ≡ l = λ d. get_or-set_same now i l d (omega (arith, r.long)) in
-    let there : (k : ℕ) (d : Level) → (k ≡ i → ⊥) → get_or (set now i l) k d ≡ get_or now k d = λ k d ne. get_or-set_other now i k l d ne in
-    let was : (d : Level) → get_or now i e ≡ get_or start i d = λ d. get_or_default now i e d (omega (arith, r.long)) ∙ r.rest i d (omega arith) in
-    record {
-      long = length-set now i l ∙ r.long;
-      done = λ k d h. ⊎_elim
-          (λ (q : k ≡ i). subst (λ z. Trimmed t v (get_or start z d) (get_or (set now i l) z d)) (sym q) (subst (λ z. Trimmed t v (get_or start i d) z) (sym (here d)) (subst (λ z. Trimmed t v z l) (was d) trimmed)))
-          (λ (q : k ≡ i → ⊥). subst (λ z. Trimmed t v (get_or start k d) z) (sym (there k d q)) (r.done k d (let ne : k ≡ i → ⊥ = q in omega arith)))
-          (cases_eq k i);
-      rest = λ k d h. there k d (λ q. omega arith) ∙ r.rest k d (omega arith);
-      fewer = λ k d. ⊎_elim
-          (λ (q : k ≡ i). subst (λ z. (get_or (set now i l) z d).number ≤ (get_or start z d).number) (sym q) (omega (arith, ap (λ z. z.number) (here d), ap (λ z. z.number) (was d), fewer)))
-          (λ (q : k ≡ i → ⊥). omega (arith, ap (λ z. z.number) (there k d q), r.fewer k d))
-          (cases_eq k i);
-      stamps = λ k d. ⊎_elim
-          (λ (q : k ≡ i). subst (λ z. (get_or (set now i l) z d).stamps ≡ (get_or start z d).stamps) (sym q) (ap (λ z. z.stamps) (here d) ∙ stamps ∙ ap (λ z. z.stamps) (was d)))
-          (λ (q : k ≡ i → ⊥). ap (λ z. z.stamps) (there k d q) ∙ r.stamps k d)
-          (cases_eq k i);
-    }
-
--- levels keep their places
-pub dropped_places : (t v : ℕ) (start now : List Level) (i : ℕ) → Dropped t v start now i → AllByRecursion Places start → AllByRecursion Places now
-dropped_places t v start now i r places =
-    let d : Level = record { number = 0; stamps = [] } in
-    All-from_get_or Places now d (λ k h. let p = All-get_or Places start k d (omega (arith, r.long)) places in
-    (ap length (r.stamps k d) ∙ p.0, omega (arith, r.fewer k d, p.1)))
-
-pub dropped_few : (t v : ℕ) (start now : List Level) (i : ℕ) → Dropped t v start now i → (n : ℕ) → AllByRecursion (λ (l : Level). l.number ≤ n) start → AllByRecursion (λ (l : Level). l.number ≤ n) now
-dropped_few t v start now i r n few =
-    let d : Level = record { number = 0; stamps = [] } in
-    All-from_get_or (λ (l : Level). l.number ≤ n) now d (λ k h. omega (arith, r.fewer k d, All-get_or (λ (l : Level). l.number ≤ n) start k d (omega (arith, r.long)) few))

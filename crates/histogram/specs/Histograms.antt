@@ -3,6 +3,7 @@ use Rattle.std.specs.Prelude.{◌≡◌, ℕ, ◌+◌, ◌*◌, ◌≤◌, Bool,
 use Rattle.std.specs.List.{AllByRecursion}
 use Rattle.window.specs.declared.CounterFault.{CounterFault}
 use Rattle.window.specs.Stamps.{live_count, ascending, newest_stamp}
+use Rattle.window.specs.Settings.{in_range}
 use Rattle.window.specs.Meaning.{Model}
 use Rattle.histogram.specs.declared.levels.Level.{Level}
 use Rattle.histogram.specs.declared.Histogram.{Histogram}
@@ -56,10 +57,6 @@ pub record Sound (c : Histogram) : Type 0 where
   pub twelve_levels : length c.levels ≡ 12
   pub seven_places : AllByRecursion Places c.levels
   pub sound_buckets : SoundBuckets c.fineness c.last (buckets c)
-
--- a window and a fineness in their ranges
-abbrev pub in_range : ℕ → ℕ → Bool
-in_range w m = (nat_le 1 w && nat_le w 4294967295) && (nat_le 1 m && nat_le m 6)
 
 -- whether each level has its places
 abbrev pub placed : List Level → Bool
@@ -134,6 +131,10 @@ pub record Counts (c : Histogram) (t v : ℕ) (pair : ℕ × ℕ) : Type 0 where
 abbrev pub Gives : Histogram → ℕ → ℕ → Result (ℕ × ℕ) CounterFault → Type 0
 Gives c t v (Ok pair) = Counts c t v pair
 Gives c t v (Err f) = Unit {0}
+
+-- c with t as its newest stamp and one stamp more taken, its levels as they were
+abbrev pub advanced : Histogram → ℕ → Histogram
+advanced c t = record { window = c.window; fineness = c.fineness; last = t; taken = c.taken + 1; levels = c.levels }
 
 -- d is c once stamp t has arrived
 pub record Arrives (c d : Histogram) (t : ℕ) : Type 0 where

@@ -1,18 +1,18 @@
 -- Histograms keep the rules of a window counter, and an arrival leaves a sound one sound.
-use Rattle.std.specs.Prelude.{◌≡◌, ℕ, zero, suc, ◌+◌, ◌-◌, ◌*◌, ◌<◌, ◌≤◌, true, false, List, [], ◌∷◌, ◌++◌, reverse, length, replicate, nat_le, refl}
+use Rattle.std.specs.Prelude.{◌≡◌, ℕ, zero, suc, ◌+◌, ◌-◌, ◌*◌, ◌<◌, ◌≤◌, min, max, true, false, List, [], ◌∷◌, ◌++◌, reverse, length, replicate, nat_le, refl}
 use Rattle.std.proofs.Common.{sym, ap, subst, ◌∙◌, ⊎_elim, arith, mul-zero}
 use Rattle.std.specs.List.{AllByRecursion}
 use Rattle.std.proofs.lemmas.List.{length_push, reverse-append}
-use Rattle.std.proofs.lemmas.Bool.{and_parts, and_from, le-leb, eqb-true, eq-eqb, cases_Bool, cond-false}
+use Rattle.std.proofs.lemmas.Bool.{both_ways, and_parts, and_from, le-leb, eqb-true, eq-eqb, cases_Bool, cond-false}
 use Rattle.window.specs.Stamps.{ascending, newest_stamp}
-use Rattle.window.specs.Meaning.{Keeps, Permitted, Between}
+use Rattle.window.specs.Meaning.{Keeps, Permitted, Between, Fresh}
 use Rattle.window.specs.Faults.{Arrived}
 use Rattle.window.proofs.Arrivals.{ascends_push, last_push}
 use Rattle.window.proofs.NewestFirst.{Down, down_reverse, live_reverse}
 use Rattle.histogram.specs.declared.Histogram.{Histogram}
 use Rattle.histogram.specs.Buckets.{Bucket, bucket, total, live_buckets, most, after_arrival}
 use Rattle.histogram.specs.Rules.{SoundBuckets, Taken}
-use Rattle.histogram.specs.Histograms.{empty_level, new_histogram, buckets, Places, Sound, may_follow, filled, sound, low_at, high_at, cut, stands_for, histogram_model, Arrives}
+use Rattle.histogram.specs.Histograms.{empty_level, new_histogram, buckets, Places, Sound, may_follow, filled, sound, low_at, high_at, cut, stands_for, histogram_model, advanced, Arrives}
 use Rattle.histogram.specs.Sizes.{settle_ahead, total_settle, most_is_total, near}
 use Rattle.histogram.specs.Cuts.{falling_raise, falling_live, shaped_live, total_live, live_settle, falling_settle, high_bounds, low_bounds, cut_live, cut_push, cut_settle}
 use Rattle.histogram.specs.Merging.{sound_buckets, arrival_by_the_rule}
@@ -100,6 +100,14 @@ new_stands w m a b d e =
 pub stands_sound : (c : Histogram) (xs : List ℕ) → stands_for c xs ≡ true → Sound c
 stands_sound c xs e = (sound_decided c).0 (standing_from c xs e).fit
 
+-- a new histogram tells what it was made with, stands for the empty list, and is sound
+pub makes : (w m : ℕ) (c : Histogram) → w ≤ 4294967295 → c ≡ new_histogram (max 1 w) (max 1 (min 6 m)) → Fresh histogram_model w m c × Sound c
+makes w m c fits e =
+    let empty : stands_for c [] ≡ true = ap (λ z. stands_for z []) e ∙ new_stands (max 1 w) (max 1 (min 6 m)) (omega arith) (omega arith) (omega arith) (omega arith) in (
+      record { window = ap (λ z. z.window) e; fineness = ap (λ z. z.fineness) e; stands_for_empty = empty; last = ap (λ z. z.last) e; taken = ap (λ z. z.taken) e },
+      stands_sound c [] empty,
+    )
+
 -- how many arrivals are live at most, as a sum
 pub live_sum : (c : Histogram) (t v : ℕ) → sound c ≡ true → total (live_buckets t v (buckets c)) ≡ high_at c t v
 live_sum c t v e = sym (high_sound c t v e ∙ most_is_total (live_buckets t v (buckets c)))
@@ -158,6 +166,12 @@ arrives c d t after room k =
       one_more_live = λ s. one_more_live c d t k (test s) (stays_sound c d t after room k (test s));
       levels_kept = λ not. k.others (⊎_elim (λ e. absurd (not ((sound_decided c).0 e))) (λ e. e) (cases_Bool (sound c)));
     }
+
+-- a stamp that comes to what is not sound moves only the last stamp and the number taken
+pub advances : (c : Histogram) (t : ℕ) → c.last ≤ t → sound c ≡ false → Arrives c (advanced c t) t
+advances c t after e =
+    arrives c (advanced c t) t after (omega (arith, cond-false (sound c) (most (live_buckets t c.window (buckets c))) 0 e))
+    (record { window = refl; fineness = refl; last = refl; taken = refl; levels = λ y. absurd (both_ways (sound c) e y); others = λ _. refl })
 
 -- each list that was stood for has t at its end
 grown : (c d : Histogram) (t : ℕ) → c.last ≤ t → Arrives c d t → (xs : List ℕ) → stands_for c xs ≡ true → stands_for d (xs ++ (t ∷ [])) ≡ true

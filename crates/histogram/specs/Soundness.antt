@@ -1,14 +1,16 @@
 -- The test of soundness decides what the rules say, and one pass answers it.
 use Rattle.std.specs.Prelude.{◌≡◌, ℕ, ◌<◌, ◌≤◌, true, false, ◌&&◌, List, [], ◌∷◌, length, is_some, Some, None, Decides, Option, ◌==◌, nat_le, refl}
-use Rattle.std.proofs.Common.{sym, ◌∙◌, ⊎_elim, arith}
+use Rattle.std.proofs.Common.{Bool, sym, subst, ◌∙◌, ⊎_elim, arith}
 use Rattle.std.specs.Option.{unwrap_or}
+use Rattle.std.specs.Bool.{then_some}
 use Rattle.std.specs.List.{AllByRecursion}
-use Rattle.std.proofs.lemmas.Bool.{both_ways, and_parts, and_from, leb-true, le-leb, eqb-true, eq-eqb, cases_Bool, cond-true, cond-false}
+use Rattle.std.proofs.lemmas.Bool.{both_ways, and_parts, and_from, leb-true, leb-false, le-leb, eqb-true, eq-eqb, cases_Bool, cond-true, cond-false}
+use Rattle.window.specs.Settings.{in_range}
 use Rattle.histogram.specs.declared.levels.Level.{Level}
 use Rattle.histogram.specs.declared.tally.Tally.{Tally}
 use Rattle.histogram.specs.declared.Histogram.{Histogram}
 use Rattle.histogram.specs.Buckets.{total, falling, live_buckets, least, most}
-use Rattle.histogram.specs.Histograms.{buckets, Places, Sound, in_range, placed, filled, sound, low_at, high_at, Reads, Counts}
+use Rattle.histogram.specs.Histograms.{buckets, Places, Sound, placed, filled, sound, low_at, high_at, Reads, Counts}
 use Rattle.histogram.specs.Sizes.{Shaped}
 use Rattle.histogram.specs.Merging.{sound_buckets}
 use Rattle.histogram.specs.Filling.{shaped_levels, sound_filled}
@@ -116,11 +118,16 @@ low_sound c t v e = cond-true (sound c) _ _ e
 pub high_sound : (c : Histogram) (t v : ℕ) → sound c ≡ true → high_at c t v ≡ most (live_buckets t v (buckets c))
 high_sound c t v e = cond-true (sound c) _ _ e
 
--- a pass to the end, with a sum that may be, reads a sound histogram
-pub pass_reads : (c : Histogram) (t v : ℕ) (a : Tally) → in_range c.window c.fineness ≡ true → length c.levels ≡ 12 → Passed c.fineness c.last t v c.levels a → nat_le a.sum 4095 ≡ true → Reads c t v (Some (a.low, a.high))
-pass_reads c t v a ranges twelve p sum =
-    let e : sound c ≡ true = parts_to c (record { ranges = ranges; levels = twelve; places = p.places; fills = p.fills; falls = p.tells.falls; sum = omega (arith, leb-true a.sum 4095 sum, p.tells.sum) }) in
-    (e, p.tells.low ∙ sym (low_sound c t v e), p.tells.high ∙ sym (high_sound c t v e))
+-- a pass to the end reads a sound histogram where the sum may be, and no other
+pub pass_reads : (c : Histogram) (t v : ℕ) (a : Tally) → in_range c.window c.fineness ≡ true → length c.levels ≡ 12 → Passed c.fineness c.last t v c.levels a → Reads c t v (then_some (nat_le a.sum 4095) (a.low, a.high))
+pass_reads c t v a ranges twelve p =
+    let of : Bool → Type 0 = λ b. Reads c t v (then_some b (a.low, a.high)) in
+    ⊎_elim
+    (λ (y : nat_le a.sum 4095 ≡ true).
+    let e : sound c ≡ true = parts_to c (record { ranges = ranges; levels = twelve; places = p.places; fills = p.fills; falls = p.tells.falls; sum = omega (arith, leb-true a.sum 4095 y, p.tells.sum) }) in
+    subst of (sym y) (e, p.tells.low ∙ sym (low_sound c t v e), p.tells.high ∙ sym (high_sound c t v e)))
+    (λ (n : nat_le a.sum 4095 ≡ false). subst of (sym n) (unsound_sum c (omega (arith, leb-false a.sum 4095 n, p.tells.sum))))
+    (cases_Bool (nat_le a.sum 4095))
 
 -- a reading tells whether the histogram is sound, and low and high
 pub reads_sound : (c : Histogram) (t v : ℕ) (r : Option (ℕ × ℕ)) → Reads c t v r → is_some r ≡ sound c

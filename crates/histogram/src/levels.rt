@@ -1,6 +1,6 @@
 // The buckets of one size, and those of all sizes.
-ghost use Rattle.std.specs.Prelude.{◌≡◌, ℕ, ◌+◌, ◌-◌, ◌<◌, ◌≤◌, true, not, ◌∷◌, length, take, nat_lt, slice_index};
-ghost use Rattle.std.specs.List.{AllByRecursion};
+ghost use Rattle.std.specs.Prelude.{◌≡◌, ℕ, ◌+◌, ◌<◌, ◌≤◌, true, not, ◌∷◌, length, take};
+ghost use Rattle.std.specs.List.{AllByRecursion, suffix_len};
 ghost use Rattle.window.specs.Stamps.{is_live};
 ghost use Rattle.histogram.specs.declared.levels.Level.{Level as OneLevel};
 ghost use Rattle.histogram.specs.Buckets.{bucket, total, falling, live_buckets, settle};
@@ -8,30 +8,34 @@ ghost use Rattle.histogram.specs.Histograms.{in_use, buckets_from, Places, Trimm
 
 use window::stamps::is_live;
 
-// How many buckets of one size there are, and their stamps, newest first.
-#[derive(Clone, Copy)]
+// How many buckets of one size there are, and their stamps, newest first. The record lies in lent
+// memory and may hold anything: so a number beside seven fixed places.
+#[derive(Clone, Copy, PartialEq, Eq, Debug)]
 pub struct Level {
     pub number: u8,
     pub stamps: [u32; 7],
 }
 
 impl Level {
-    // Whether the oldest bucket is dead at t over v.
-    fn oldest_is_dead(&self, t: u32, v: u32) -> bool
-        requires some { 0 < self.now.number }
+    // The stamps of the buckets.
+    pub(crate) fn in_use(&self) -> &[u32]
         requires places { self.now.number ≤ 7 }
-        ensures dead { result ≡ not (is_live t v (slice_index self.now.stamps (self.now.number - 1))) }
+        ensures used { result.now ≡ in_use self.now }
+        ensures places { Places self.now }
     {
-        !is_live(self.stamps[self.number as usize - 1], t, v)
+        &self.stamps[..usize::from(self.number)]
     }
 
-    // Drops the oldest bucket.
-    fn drop_oldest(&mut self)
-        requires some { 0 < self.old.number }
-        ensures fewer { self.new.number ≡ self.old.number - 1 }
-        ensures stamps { self.new.stamps ≡ self.old.stamps }
+    // How many buckets are dead at t over v, from the oldest on.
+    fn dead(&self, t: u32, v: u32) -> usize
+        requires places { self.now.number ≤ 7 }
+        ensures counted { result ≡ suffix_len (λ s. not (is_live t v s)) (in_use self.now) }
     {
-        self.number -= 1;
+        self.in_use()
+            .iter()
+            .rev()
+            .take_while(|s| !is_live(**s, t, v))
+            .count()
     }
 
     // Drops the buckets dead at t over v: the oldest ones, as stamps never rise.
@@ -41,25 +45,7 @@ impl Level {
         ensures fewer { self.new.number ≤ self.old.number }
         ensures trimmed { Trimmed t v self.old self.new }
     {
-        while self.number > 0 && self.oldest_is_dead(t, v) {
-            self.drop_oldest();
-        }
-    }
-
-    // Whether there are as many buckets as there may be.
-    fn is_full(&self, fineness: u8) -> bool
-        ensures full { result ≡ nat_lt fineness self.now.number }
-    {
-        self.number > fineness
-    }
-
-    // The stamp of what the two oldest of a full level become when one more comes in front: the newer one's.
-    fn merged_stamp(&self, fineness: u8) -> u32
-        requires some { 0 < fineness }
-        requires fine { fineness ≤ 6 }
-        ensures newer { result ≡ slice_index self.now.stamps (fineness - 1) }
-    {
-        self.stamps[fineness as usize - 1]
+        self.number -= self.dead(t, v) as u8;
     }
 
     // Puts t in front of the first `kept` stamps, and lets the others go.
@@ -69,16 +55,12 @@ impl Level {
         ensures number { self.new.number ≡ kept + 1 }
         ensures stamps { in_use self.new ≡ t ∷ take kept self.old.stamps }
     {
-        let mut moved = t;
-        for i in 0..kept as usize + 1 {
-            let next = self.stamps[i];
-            self.stamps[i] = moved;
-            moved = next;
-        }
+        self.stamps.copy_within(..usize::from(kept), 1);
+        self.stamps[0] = t;
         self.number = kept + 1;
     }
 
-    // One more bucket in front; where the level was full, the stamp of the two oldest merged, which leave it.
+    // One more bucket in front; where the level was full, the stamp of the two oldest merged, which leave it: the newer one's.
     fn insert(&mut self, fineness: u8, t: u32) -> Option<u32>
         requires some { 0 < fineness }
         requires fine { fineness ≤ 6 }
@@ -86,11 +68,11 @@ impl Level {
         ensures places { Places self.new }
         ensures inserted { Inserted fineness t self.old self.new result }
     {
-        if !self.is_full(fineness) {
+        if self.number <= fineness {
             self.push(self.number, t);
             return None;
         }
-        let merged = self.merged_stamp(fineness);
+        let merged = self.stamps[usize::from(fineness) - 1];
         self.push(fineness - 1, t);
         Some(merged)
     }

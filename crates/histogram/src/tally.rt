@@ -1,5 +1,5 @@
 // One pass over buckets, newest first: whether stamps rise, and what is counted.
-ghost use Rattle.std.specs.Prelude.{◌≡◌, ◌+◌, ◌*◌, ◌^◌, ◌<◌, ◌≤◌, map, length, IfSome, nat_lt};
+ghost use Rattle.std.specs.Prelude.{◌≡◌, ◌+◌, ◌*◌, ◌^◌, ◌<◌, ◌≤◌, map, length, IfSome};
 ghost use Rattle.histogram.specs.Buckets.{bucket};
 ghost use Rattle.histogram.specs.Readings.{Widened, GoesOn};
 
@@ -15,13 +15,6 @@ pub(crate) struct Tally {
 }
 
 impl Tally {
-    // Whether a stamp is above the oldest one so far.
-    fn rises(&self, stamp: u32) -> bool
-        ensures above { result ≡ nat_lt self.now.top stamp }
-    {
-        stamp > self.top
-    }
-
     // The tally with one older bucket; where it is live it is the oldest live one so far.
     fn widened(self, size: u32, stamp: u32, t: u32, v: u32) -> Tally
         requires some { 0 < size }
@@ -31,17 +24,18 @@ impl Tally {
     {
         let sum = self.sum + size;
         if is_live(stamp, t, v) {
-            return Tally {
+            Tally {
                 top: stamp,
                 sum,
                 low: self.high + 1,
                 high: self.high + size,
-            };
-        }
-        Tally {
-            top: stamp,
-            sum,
-            ..self
+            }
+        } else {
+            Tally {
+                top: stamp,
+                sum,
+                ..self
+            }
         }
     }
 
@@ -56,7 +50,7 @@ impl Tally {
     {
         let mut tally = self;
         for stamp in stamps {
-            if tally.rises(*stamp) {
+            if *stamp > tally.top {
                 return None;
             }
             tally = tally.widened(size, *stamp, t, v);

@@ -8,41 +8,19 @@ mod tests {
     use std::test::Fail;
     use window::{Counter, CounterFault};
 
-    // How many of the stamps are live at t over v, one by one.
-    fn exact(stamps: &[u32], t: u32, v: u32) -> u32 {
-        let mut live: u32 = 0;
-        for s in stamps {
-            if *s <= t && t - *s < v {
-                live = live.wrapping_add(1);
-            }
-        }
-        live
-    }
-
-    // The next of a row of numbers without a plain pattern.
-    fn shuffled(x: u32) -> u32 {
-        let a = x ^ (x << 13);
-        let b = a ^ (a >> 17);
-        b ^ (b << 5)
+    // How many of the stamps are live at t over v: counted here, by nothing that the histogram is made of.
+    fn exact(stamps: &[u32], t: u32, v: u32) -> usize {
+        stamps.iter().filter(|s| **s <= t && t - **s < v).count()
     }
 
     // A histogram counts these stamps as it should at t over v.
     fn agrees(rt: &impl Abort, c: &Histogram, stamps: &[u32], t: u32, v: u32) -> Result<(), Fail> {
         let (low, high) = c.count(t, v)?;
         let live = exact(stamps, t, v);
-        assert!(rt; low <= live);
-        assert!(rt; live <= high);
+        assert!(rt; low as usize <= live);
+        assert!(rt; live <= high as usize);
         assert!(rt; u32::from(c.fineness()).wrapping_mul(high.wrapping_sub(low)) <= low);
         Ok(())
-    }
-
-    fn same_levels(a: &Histogram, b: &Histogram) -> bool {
-        for (x, y) in a.levels.iter().zip(b.levels.iter()) {
-            if x.number != y.number || x.stamps != y.stamps {
-                return false;
-            }
-        }
-        true
     }
 
     #[test]
@@ -68,7 +46,7 @@ mod tests {
         assert_eq!(rt; c.count(14, 10)?, (low, 4095));
         let full = c;
         assert_eq!(rt; c.take(14), Err(CounterFault::Full));
-        assert!(rt; same_levels(&c, &full));
+        assert_eq!(rt; c, full);
         assert_eq!(rt; (c.last(), c.taken()), (5, 4095));
         c.take(15)?;
         assert_eq!(rt; c.count(15, 10)?, (1, 1));
@@ -115,9 +93,14 @@ mod tests {
         assert!(rt; !c.is_sound());
         assert_eq!(rt; c.count(200, c.window.max(1)).unwrap_or((0, 0)), (0, 0));
         c.take(200)?;
-        assert!(rt; same_levels(&before, &c));
-        assert_eq!(rt; (c.window, c.fineness), (before.window, before.fineness));
-        assert_eq!(rt; (c.last, c.taken), (200, before.taken.wrapping_add(1)));
+        assert_eq!(rt;
+            c,
+            Histogram {
+                last: 200,
+                taken: before.taken.wrapping_add(1),
+                ..before
+            }
+        );
         Ok(())
     }
 
@@ -162,21 +145,21 @@ mod tests {
     }
 
     // Some thousand stamps beside the list of them all, at many times and spans.
-    fn long_run(rt: &impl Abort, fineness: u8, seed: u32) -> Result<(), Fail> {
-        let mut stamps = [0u32; 3000];
+    fn long_run(rt: &(impl Abort + AllocGlobal), fineness: u8, seed: u32) -> Result<(), Fail> {
+        let mut stamps = Vec::new(rt.alloc());
         let mut c = <Histogram as Counter>::make(600, fineness);
         let mut t: u32 = 0;
         let mut x = seed;
-        for i in 0..3000 {
-            x = shuffled(x);
+        for _ in 0..3000 {
+            x = xorshift::next(x);
             if x % 4 == 0 {
                 t = t.wrapping_add((x >> 8) % 9);
             }
             c.take(t)?;
-            stamps[i] = t;
+            stamps.push(t)?;
             let later = t.wrapping_add((x >> 12) % 50);
-            agrees(rt, &c, &stamps[0..i + 1], t, 600)?;
-            agrees(rt, &c, &stamps[0..i + 1], later, (x >> 20) % 600 + 1)?;
+            agrees(rt, &c, &stamps, t, 600)?;
+            agrees(rt, &c, &stamps, later, (x >> 20) % 600 + 1)?;
         }
         assert!(rt; c.is_sound());
         Ok(())

@@ -2,8 +2,8 @@
 #![tactic(auto)]
 
 ghost use Rattle.std.specs.Prelude.{◌≡◌, ◌%◌, ◌<◌, true, is_ok, nat_le};
-ghost use Rattle.window.specs.Faults.{Tested, Took, count_causes, take_causes};
-ghost use Rattle.ring.specs.Kept.{empty_ring, kept, live_kept, with_newest, ring_model};
+ghost use Rattle.window.specs.Faults.{Took, most_taken};
+ghost use Rattle.ring.specs.Kept.{kept, live_kept, with_newest, ring_model};
 ghost use Rattle.ring.specs.Standing.{ring_keeps};
 
 use window::admission::{in_turn, permit};
@@ -14,7 +14,9 @@ use window::{Counter, CounterFault};
 // How many stamps are kept, and the limit.
 const KEPT: u32 = 256;
 
-#[derive(Clone, Copy)]
+// The record lies in lent memory and may hold anything: the stamps keep their fixed places, and
+// the number taken beside them says which of them are in use.
+#[derive(Clone, Copy, PartialEq, Eq, Debug)]
 pub struct Ring {
     pub window: u32,
     pub fineness: u8,
@@ -31,33 +33,13 @@ fn place_of(rank: u32) -> usize
     (rank % KEPT) as usize
 }
 
-// Whether so many live stamps leave no room.
-fn fills(live: u32) -> bool
-    ensures full { result ≡ nat_le 256 live }
-{
-    live >= KEPT
-}
-
 impl Ring {
-    // A ring that has taken no stamp.
-    fn empty(window: u32, fineness: u8) -> Ring
-        ensures empty { result ≡ empty_ring window fineness }
-    {
-        Ring {
-            window: window_from(window),
-            fineness: fineness_from(fineness),
-            last: 0,
-            taken: 0,
-            stamps: [0; 256],
-        }
-    }
-
     // The kept stamps, by place.
     fn kept(&self) -> &[u32]
         ensures kept { result.now ≡ kept self.now }
     {
         let many = self.taken.min(KEPT) as usize;
-        &self.stamps[0..many]
+        &self.stamps[..many]
     }
 
     // How many of the kept stamps are live at t over v.
@@ -72,36 +54,14 @@ impl Ring {
     fn is_full(&self, t: u32) -> bool
         ensures full { result ≡ nat_le 256 (live_kept self.now t self.now.window) }
     {
-        if self.taken < KEPT {
-            return false;
-        }
-        if !is_live(self.stamps[place_of(self.taken)], t, self.window) {
-            return false;
-        }
-        fills(self.live(t, self.window))
-    }
-
-    // Whether it may be asked at t over v.
-    fn permits(&self, t: u32, v: u32) -> Result<(), CounterFault>
-        ensures tested { Tested (count_causes ring_model self.now t v) result }
-    {
-        permit(self.last, self.window, t, v)
-    }
-
-    // Whether it takes t.
-    fn admits(&self, t: u32) -> Result<(), CounterFault>
-        ensures tested { Tested (take_causes ring_model self.now t) result }
-    {
-        in_turn(self.last, self.taken, t)?;
-        if self.is_full(t) {
-            return Err(CounterFault::Full);
-        }
-        Ok(())
+        self.taken >= KEPT
+            && is_live(self.stamps[place_of(self.taken)], t, self.window)
+            && self.live(t, self.window) >= KEPT
     }
 
     // Stores t as the newest stamp.
     fn arrive(&mut self, t: u32)
-        requires room { self.old.taken < 16777215 }
+        requires room { self.old.taken < most_taken }
         ensures stored { self.new ≡ with_newest self.old t }
     {
         self.stamps[place_of(self.taken)] = t;
@@ -116,9 +76,16 @@ impl Counter for Ring {
     ghost keeps = { ring_keeps };
 
     fn make(window: u32, fineness: u8) -> Ring {
-        Ring::empty(window, fineness)
+        Ring {
+            window: window_from(window),
+            fineness: fineness_from(fineness),
+            last: 0,
+            taken: 0,
+            stamps: [0; 256],
+        }
     }
 
+    // What a ring tells stands in its own impl, as in the other counters': a shared struct of the four fields would only add a layer.
     fn window(&self) -> u32 {
         self.window
     }
@@ -140,7 +107,7 @@ impl Counter for Ring {
     }
 
     fn count(&self, t: u32, v: u32) -> Result<(u32, u32), CounterFault> {
-        self.permits(t, v)?;
+        permit(self.last, self.window, t, v)?;
         let live = self.live(t, v);
         Ok((live, live))
     }
@@ -149,7 +116,10 @@ impl Counter for Ring {
         ensures took { Took ring_model self.old self.new t result }
         ensures stored { is_ok result ≡ true → self.new ≡ with_newest self.old t }
     {
-        self.admits(t)?;
+        in_turn(self.last, self.taken, t)?;
+        if self.is_full(t) {
+            return Err(CounterFault::Full);
+        }
         self.arrive(t);
         Ok(())
     }

@@ -1,17 +1,18 @@
 -- A walk meets one rank more, and its end: what it has seen is what the wave counts.
-use Rattle.std.proofs.Common.{◌≡◌, ℕ, ◌+◌, ◌-◌, ◌<◌, ◌≤◌, min, Bool, true, false, cond, ◌⊎◌, length, is_some, Some, None, Decides, Option, unwrap_or, sym, refl, ap, ◌∙◌, subst, inr, ⊎_elim, arith}
-use Rattle.std.proofs.lemmas.Bool.{and_from, le-leb, eq-eqb, ne_eqb, cases_lt, cases_eq, cases_Bool, cond-true, cond-false, both_ways}
+use Rattle.std.proofs.Common.{◌≡◌, ℕ, ◌+◌, ◌-◌, ◌<◌, ◌≤◌, min, Bool, true, false, cond, length, is_some, Some, None, Decides, Option, unwrap_or, sym, refl, ap, ◌∙◌, subst, inr, ⊎_elim, arith}
+use Rattle.std.proofs.lemmas.Bool.{and_from, le-leb, cases_lt, cases_eq, cases_Bool, cond-true, cond-false, both_ways}
 use Rattle.std.proofs.lemmas.Bool.Decides.{nat_tests, Decides-at}
-use Rattle.wave.specs.Waves.{stamp_of, rank_live, oldest_live, newest_dead, low_of, high_of, in_range, sound, wave_high}
+use Rattle.window.specs.Settings.{in_range}
+use Rattle.wave.specs.Waves.{stamp_of, rank_live, oldest_live, newest_dead, low_of, high_of, sound, wave_low, wave_high}
 use Rattle.wave.specs.Soundness.{Sound}
-use Rattle.wave.specs.Walks.{StandsAt, Older, fits, looked, estimated}
+use Rattle.wave.specs.Walks.{StandsAt, Older, fits, looked, estimated_by, estimated}
 use Rattle.wave.specs.declared.Wave.{Wave}
 use Rattle.wave.specs.declared.survey.Seen.{Seen}
 use Rattle.wave.specs.Levels.{keeps_kept, keeps_decides, reach_pos}
 use Rattle.wave.specs.Bounds.{Held, rank_pos, oldest_least, oldest_is, newest_is, newest_none}
 use Rattle.wave.specs.Parts.{held, held_kept, sound_decides}
 use Rattle.wave.specs.Sounds.{high_none}
-use Rattle.wave.proofs.Seeing.{HighOf, Sees, LowFrom, HighFrom, sees_none, sees_down, fits_stamp, fits_few, sound_fits}
+use Rattle.wave.proofs.Seeing.{LowOf, HighOf, Sees, LowFrom, HighFrom, sees_none, sees_down, fits_stamp, fits_few, sound_fits}
 
 -- the largest dead rank, where rank r is met
 high_more : (c : Wave) (t v r : ℕ) (h : Option ℕ) → Held c r → HighOf c t v (r + 1) h → HighOf c t v r (cond (rank_live c t v r) h (Some (unwrap_or h (c.taken - r))))
@@ -42,18 +43,24 @@ high_more c t v r (Some h) k f =
     let here : HighFrom c t v r h = more (λ x e d. omega (arith, f.met)) in
     ⊎_elim (λ (y : rank_live c t v r ≡ true). rw y here) (λ (d : rank_live c t v r ≡ false). rw d here) (cases_Bool (rank_live c t v r))
 
-low_more : (c : Wave) (t v r low : ℕ) → Held c r → (low ≡ 0) ⊎ LowFrom c t v low → (cond (rank_live c t v r) (c.taken - r + 1) low ≡ 0) ⊎ LowFrom c t v (cond (rank_live c t v r) (c.taken - r + 1) low)
-low_more c t v r low k f =
+-- the smallest live rank, where rank r is met
+low_more : (c : Wave) (t v r : ℕ) (l : Option ℕ) → Held c r → LowOf c t v (r + 1) l → LowOf c t v r (cond (rank_live c t v r) (Some (c.taken - r + 1)) l)
+low_more c t v r None k f =
     ⊎_elim
-    (λ (y : rank_live c t v r ≡ true). rw y (inr (record { rank = r; held = k; alive = y; is = refl })))
-    (λ (d : rank_live c t v r ≡ false). rw d f)
+    (λ (y : rank_live c t v r ≡ true). rw y (record { rank = r; held = k; alive = y; is = refl; least = λ x met kx e. met }))
+    (λ (d : rank_live c t v r ≡ false). rw d (λ x met kx. ⊎_elim (λ (e : x ≡ r). ap (rank_live c t v) e ∙ d) (λ ne. f x (omega arith) kx) (cases_eq x r)))
     (cases_Bool (rank_live c t v r))
-
-low_reaches : (c : Wave) (t v r low x : ℕ) → Held c r → Held c x → r ≤ x → rank_live c t v x ≡ true → (r < x → c.taken + 1 ≤ low + x) → c.taken + 1 ≤ cond (rank_live c t v r) (c.taken - r + 1) low + x
-low_reaches c t v r low x k kx met e f =
+low_more c t v r (Some l) k f =
     ⊎_elim
-    (λ (y : rank_live c t v r ≡ true). rw y (omega (arith, k.taken)))
-    (λ (d : rank_live c t v r ≡ false). rw d (⊎_elim (λ (q : x ≡ r). absurd (both_ways (rank_live c t v r) d (ap (rank_live c t v) (sym q) ∙ e))) (λ ne. f (omega arith)) (cases_eq x r)))
+    (λ (y : rank_live c t v r ≡ true). rw y (record { rank = r; held = k; alive = y; is = refl; least = λ x met kx e. met }))
+    (λ (d : rank_live c t v r ≡ false).
+    rw d (record {
+      rank = f.rank;
+      held = f.held;
+      alive = f.alive;
+      is = f.is;
+      least = λ x met kx y. ⊎_elim (λ (e : x ≡ r). absurd (both_ways (rank_live c t v r) d (ap (rank_live c t v) (sym e) ∙ y))) (λ ne. f.least x (omega arith) kx y) (cases_eq x r);
+    }))
     (cases_Bool (rank_live c t v r))
 
 -- one rank more
@@ -83,7 +90,6 @@ sees_more c t v r s k fit f =
           (cases_eq x r);
       oldest_late = λ some. omega (arith, fits_stamp c r s.oldest some fit, f.oldest_late pos);
       oldest_is = λ some. inr (record { rank = r; held = k; met = omega arith; is = refl });
-      low_all = λ x met kx y. low_reaches c t v r s.low x k kx met y (λ less. f.low_all x (omega arith) kx y);
       low_is = low_more c t v r s.low k f.low_is;
       high_is = high_more c t v r s.high k f.high_is;
     }
@@ -99,7 +105,7 @@ standing c j r s = keeps_kept c.taken c.fineness j r ((keeps_decides c.taken c.f
 pub walk_reached : (c : Wave) (t v r j : ℕ) (s : Seen) → Walked c t v (Some (r, j)) s → r ≤ c.taken
 walk_reached c t v r j s w = (standing c j r w.0).taken
 
-pub walk_first : (c : Wave) (t v : ℕ) → Walked c t v (Some (c.taken, 0)) (record { oldest = c.last; low = 0; high = None })
+pub walk_first : (c : Wave) (t v : ℕ) → Walked c t v (Some (c.taken, 0)) (record { oldest = c.last; low = None; high = None })
 walk_first c t v = (
   record {
     keeps = (keeps_decides c.taken c.fineness 0 c.taken).1 (record { belongs = omega arith; taken = omega arith; near = omega (arith, reach_pos c.fineness 0) });
@@ -135,17 +141,12 @@ all_sound c t v s some fit least most places f = record {
       (cases_lt c.taken p);
 }
 
-pub all_low : (c : Wave) (t v : ℕ) (s : Seen) → Sees c t v 0 s → s.low ≡ low_of c t v
-all_low c t v s f =
-    let p = oldest_live c t v in
-    let up : s.low ≤ low_of c t v =
-    ⊎_elim (λ (z : s.low ≡ 0). omega arith) (λ l. omega (arith, l.is, l.held.taken, oldest_least c t v l.rank l.held l.alive)) f.low_is in
-    let down : low_of c t v ≤ s.low =
-    ⊎_elim
-    (λ (none : c.taken < p). omega arith)
-    (λ (l : p ≤ c.taken). let o = oldest_is c t v l in omega (arith, f.low_all p (omega arith) o.0 o.1))
-    (cases_lt c.taken p) in
-    omega arith
+all_low : (c : Wave) (t v low : ℕ) → LowFrom c t v 0 low → (oldest_live c t v ≤ c.taken) × (low ≡ low_of c t v)
+all_low c t v low f =
+    let most = oldest_least c t v f.rank f.held f.alive in
+    let some : oldest_live c t v ≤ c.taken = omega (arith, most, f.held.taken) in
+    let o = oldest_is c t v some in
+    (some, omega (arith, f.is, f.held.taken, most, f.least (oldest_live c t v) (omega arith) o.0 o.1))
 
 all_high : (c : Wave) (t v low : ℕ) (h : Option ℕ) → oldest_live c t v ≤ c.taken → low ≡ low_of c t v → HighOf c t v 0 h → unwrap_or h low ≡ c.taken - newest_dead c t v
 all_high c t v low None some e f =
@@ -158,17 +159,21 @@ all_high c t v low (Some h) some e f =
 both : (a b x y : ℕ) → a ≡ x → b ≡ y → ◌≡◌ {A = ℕ × ℕ} (a, b) (x, y)
 both a b x y p q = cc
 
-pub all_estimated : (c : Wave) (t v : ℕ) (s : Seen) → Sees c t v 0 s → estimated s ≡ (low_of c t v, high_of c t v)
-all_estimated c t v s f =
-    let low = all_low c t v s f in
+all_seen : (c : Wave) (t v : ℕ) (low high : Option ℕ) → LowOf c t v 0 low → HighOf c t v 0 high → estimated_by low high ≡ (low_of c t v, high_of c t v)
+all_seen c t v None high l h =
+    let none : c.taken < oldest_live c t v =
     ⊎_elim
-    (λ (z : s.low ≡ 0).
-    cond-true _ _ _ (eq-eqb s.low 0 z) ∙ both 0 0 (low_of c t v) (high_of c t v) (omega arith) (sym (high_none c t v (omega arith))))
-    (λ (nz : s.low ≡ 0 → ⊥).
-    let some : oldest_live c t v ≤ c.taken = omega arith in
-    let high = all_high c t v s.low s.high some low f.high_is in
-    cond-false _ _ _ (ne_eqb s.low 0 nz) ∙ both s.low (min (unwrap_or s.high s.low) 8190) (low_of c t v) (high_of c t v) low (ap (λ x. min x 8190) high ∙ sym (cond-true _ _ _ (le-leb _ _ some))))
-    (cases_eq s.low 0)
+    (λ (n : c.taken < oldest_live c t v). n)
+    (λ (some : oldest_live c t v ≤ c.taken). let o = oldest_is c t v some in absurd (both_ways (rank_live c t v (oldest_live c t v)) (l (oldest_live c t v) (omega arith) o.0) o.1))
+    (cases_lt c.taken (oldest_live c t v)) in
+    both 0 0 (low_of c t v) (high_of c t v) (omega arith) (sym (high_none c t v (omega arith)))
+all_seen c t v (Some low) high l h =
+    let is = all_low c t v low l in
+    let top = all_high c t v low high is.0 is.1 h in
+    both low (min (unwrap_or high low) 8190) (low_of c t v) (high_of c t v) is.1 (ap (λ x. min x 8190) top ∙ sym (cond-true _ _ _ (le-leb _ _ is.0)))
+
+pub all_estimated : (c : Wave) (t v : ℕ) (s : Seen) → Sees c t v 0 s → estimated s ≡ (low_of c t v, high_of c t v)
+all_estimated c t v s f = all_seen c t v s.low s.high f.low_is f.high_is
 
 -- what a survey gives: low and high where the wave is sound, else nothing
 pub record Surveyed (c : Wave) (t v : ℕ) (r : Option (ℕ × ℕ)) : Type 0 where
@@ -224,10 +229,10 @@ ranges w m e = (grind (arith, nat_tests), grind (arith, nat_tests), grind (arith
 pub sound_ranges : (c : Wave) → Sound c → in_range c.window c.fineness ≡ true
 sound_ranges c s = and_from _ _ (and_from _ _ (le-leb _ _ s.window_some) (le-leb _ _ s.window_fits)) (and_from _ _ (le-leb _ _ s.fineness_least) (le-leb _ _ s.fineness_most))
 
--- the high that a survey tells
-high_or_none : (b : Bool) (low high : ℕ) → (unwrap_or {T = ℕ × ℕ} (cond b (Some (low, high)) None) (0, 0)).1 ≡ cond b high 0
-high_or_none true low high = refl
-high_or_none false low high = refl
+-- the low and high that a survey tells
+pair_or_none : (b : Bool) (low high : ℕ) → unwrap_or {T = ℕ × ℕ} (cond b (Some (low, high)) None) (0, 0) ≡ (cond b low 0, cond b high 0)
+pair_or_none true low high = refl
+pair_or_none false low high = refl
 
-pub survey_high : (c : Wave) (t v : ℕ) (r : Option (ℕ × ℕ)) → r ≡ cond (sound c) (Some (low_of c t v, high_of c t v)) None → (unwrap_or {T = ℕ × ℕ} r (0, 0)).1 ≡ wave_high c t v
-survey_high c t v r e = ap (λ (o : Option (ℕ × ℕ)). (unwrap_or {T = ℕ × ℕ} o (0, 0)).1) e ∙ high_or_none (sound c) (low_of c t v) (high_of c t v)
+pub survey_pair : (c : Wave) (t v : ℕ) (r : Option (ℕ × ℕ)) → r ≡ cond (sound c) (Some (low_of c t v, high_of c t v)) None → unwrap_or {T = ℕ × ℕ} r (0, 0) ≡ (wave_low c t v, wave_high c t v)
+survey_pair c t v r e = ap (λ (o : Option (ℕ × ℕ)). unwrap_or {T = ℕ × ℕ} o (0, 0)) e ∙ pair_or_none (sound c) (low_of c t v) (high_of c t v)

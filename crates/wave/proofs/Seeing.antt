@@ -10,12 +10,17 @@ use Rattle.wave.specs.declared.survey.Seen.{Seen}
 use Rattle.wave.specs.Bounds.{Held, oldest_least}
 use Rattle.wave.specs.Sounds.{rise, not_late}
 
--- a kept live rank gives the low
-pub record LowFrom (c : Wave) (t v low : ℕ) : Type 0 where
+-- the smallest live one of the kept ranks gives the low
+pub record LowFrom (c : Wave) (t v from low : ℕ) : Type 0 where
   pub rank : ℕ
   pub held : Held c rank
   pub alive : rank_live c t v rank ≡ true
   pub is : low ≡ c.taken - rank + 1
+  pub least : (r : ℕ) → from ≤ r → Held c r → rank_live c t v r ≡ true → rank ≤ r
+
+abbrev pub LowOf : Wave → ℕ → ℕ → ℕ → Option ℕ → Type 0
+LowOf c t v from None = (r : ℕ) → from ≤ r → Held c r → rank_live c t v r ≡ false
+LowOf c t v from (Some low) = LowFrom c t v from low
 
 -- the largest dead one of the kept ranks gives the high
 pub record HighFrom (c : Wave) (t v from high : ℕ) : Type 0 where
@@ -44,12 +49,11 @@ pub record Sees (c : Wave) (t v from : ℕ) (s : Seen) : Type 0 where
   pub oldest : 0 < from → (r : ℕ) → from ≤ r → Held c r → s.oldest ≤ stamp_of c r
   pub oldest_late : 0 < from → s.oldest ≤ c.last
   pub oldest_is : 0 < from → (s.oldest ≡ c.last) ⊎ OldestFrom c from s.oldest
-  pub low_all : (r : ℕ) → from ≤ r → Held c r → rank_live c t v r ≡ true → c.taken + 1 ≤ s.low + r
-  pub low_is : (s.low ≡ 0) ⊎ LowFrom c t v s.low
+  pub low_is : LowOf c t v from s.low
   pub high_is : HighOf c t v from s.high
 
 -- before the first rank
-pub sees_none : (c : Wave) (t v : ℕ) → Sees c t v (c.taken + 1) (record { oldest = c.last; low = 0; high = None })
+pub sees_none : (c : Wave) (t v : ℕ) → Sees c t v (c.taken + 1) (record { oldest = c.last; low = None; high = None })
 sees_none c t v = record {
   order = λ a b pos met less ka kb. absurd (omega (arith, ka.taken));
   late = λ r pos met k. absurd (omega (arith, k.taken));
@@ -57,10 +61,13 @@ sees_none c t v = record {
   oldest = λ pos r met k. absurd (omega (arith, k.taken));
   oldest_late = λ pos. omega arith;
   oldest_is = λ pos. inl refl;
-  low_all = λ r met k e. absurd (omega (arith, k.taken));
-  low_is = inl refl;
+  low_is = λ r met k. absurd (omega (arith, k.taken));
   high_is = λ r met k. absurd (omega (arith, k.taken));
 }
+
+low_down : (c : Wave) (t v from down : ℕ) (l : Option ℕ) → ((r : ℕ) → down ≤ r → Held c r → from ≤ r) → LowOf c t v from l → LowOf c t v down l
+low_down c t v from down None none s = λ r met k. s r (none r met k) k
+low_down c t v from down (Some l) none s = record { rank = s.rank; held = s.held; alive = s.alive; is = s.is; least = λ r met k y. s.least r (none r met k) k y }
 
 high_down : (c : Wave) (t v from down : ℕ) (h : Option ℕ) → down ≤ from → ((r : ℕ) → down ≤ r → Held c r → from ≤ r) → HighOf c t v from h → HighOf c t v down h
 high_down c t v from down None le none s = λ r met k. s r (none r met k) k
@@ -76,8 +83,7 @@ sees_down c t v from down s le none f = record {
   oldest_late = λ pos. f.oldest_late (omega arith);
   oldest_is = λ pos.
       ⊎_elim (λ e. inl e) (λ o. inr (record { rank = o.rank; held = o.held; met = omega (arith, o.met); is = o.is })) (f.oldest_is (omega arith));
-  low_all = λ r met k e. f.low_all r (none r met k) k e;
-  low_is = f.low_is;
+  low_is = low_down c t v from down s.low none f.low_is;
   high_is = high_down c t v from down s.high le none f.high_is;
 }
 

@@ -83,7 +83,3 @@ coming_found n m r next j y e h c near le = (
   },
   c.bound,
 )
-
-pub coming_none : (n m r next j : ℕ) → 12 ≤ j → Coming n m r next j → (x : ℕ) → kept n m x ≡ true → r ≤ x
-coming_none n m r next j h c x k =
-    ⊎_elim (λ (l : x < r). absurd (omega (arith, c.level x k l, top_le x))) (λ l. l) (cases_lt x r)

@@ -26,10 +26,14 @@ fits c r s newer = r == 0 || (nat_le s newer && (nat_lt (c.taken - r) 4095 || no
 abbrev pub looked : Wave → ℕ → ℕ → ℕ → Seen → Seen
 looked c t v r s = record {
   oldest = stamp_of c r;
-  low = cond (rank_live c t v r) (c.taken - r + 1) s.low;
+  low = cond (rank_live c t v r) (Some (c.taken - r + 1)) s.low;
   high = cond (rank_live c t v r) s.high (Some (unwrap_or s.high (c.taken - r)));
 }
 
--- the low and high that all that was seen gives
+-- the low and high that all that was seen gives: without a live rank 0 and 0
+abbrev pub estimated_by : Option ℕ → Option ℕ → ℕ × ℕ
+estimated_by None high = (0, 0)
+estimated_by (Some low) high = (low, min (unwrap_or high low) 8190)
+
 abbrev pub estimated : Seen → ℕ × ℕ
-estimated s = cond (s.low == 0) (0, 0) (s.low, min (unwrap_or s.high s.low) 8190)
+estimated s = estimated_by s.low s.high

@@ -1,6 +1,7 @@
 -- What a deterministic wave means.
 use Rattle.std.specs.Prelude.{ℕ, suc, ◌+◌, ◌-◌, ◌*◌, ◌/◌, ◌%◌, ◌^◌, min, Bool, cond, not, ◌&&◌, ◌||◌, List, length, replicate, ◌==◌, nat_le, nat_lt, slice_index, slice_set}
 use Rattle.window.specs.Below.{all_below}
+use Rattle.window.specs.Settings.{in_range}
 use Rattle.window.specs.Meaning.{Model}
 use Rattle.window.specs.Stamps.{is_live, ascending, newest_stamp}
 use Rattle.wave.specs.Ranks.{top, kept}
@@ -46,10 +47,6 @@ rises c = all_below (λ b. all_below (λ a. not (nat_lt 0 a && (is_kept c a && i
 -- no kept stamp is after the last one
 unfoldable pub none_late : Wave → Bool
 none_late c = all_below (λ r. not (nat_lt 0 r && is_kept c r) || nat_le (stamp_of c r) c.last) (c.taken + 1)
-
--- the window is 1 up to 4,294,967,295 and the fineness 1 up to 6
-abbrev pub in_range : (w m : ℕ) → Bool
-in_range w m = (nat_le 1 w && nat_le w 4294967295) && (nat_le 1 m && nat_le m 6)
 
 -- a wave is sound: its settings are in range, it has all its places, its stamps are in order, and it holds no more than the limit
 unfoldable pub sound : Wave → Bool

@@ -9,6 +9,7 @@ ghost use Rattle.wave.specs.Standing.{wave_keeps};
 use crate::Wave;
 use crate::survey::LIMIT;
 use window::admission::{has_room, in_turn, permit};
+use window::settings::{fineness_from, window_from};
 use window::{Counter, CounterFault};
 
 impl Counter for Wave {
@@ -21,9 +22,16 @@ impl Counter for Wave {
         ensures made { result ≡ fresh (max 1 window) (max 1 (min 6 fineness)) }
         ensures sound { sound result ≡ true }
     {
-        Wave::new(window, fineness)
+        Wave {
+            window: window_from(window),
+            fineness: fineness_from(fineness),
+            last: 0,
+            taken: 0,
+            stamps: [0; 104],
+        }
     }
 
+    // What a wave tells stands in its own impl, as in the other counters': a shared struct of the four fields would only add a layer.
     fn window(&self) -> u32 {
         self.window
     }
@@ -44,9 +52,10 @@ impl Counter for Wave {
         self.taken
     }
 
+    // Counting and taking are as the histogram's but for what reads the record: a common body would want a trait for that alone.
     fn count(&self, t: u32, v: u32) -> Result<(u32, u32), CounterFault> {
         permit(self.last, self.window, t, v)?;
-        Ok(self.estimate(t, v))
+        Ok(self.survey(t, v).unwrap_or((0, 0)))
     }
 
     fn take(&mut self, t: u32) -> Result<(), CounterFault>

@@ -42,7 +42,7 @@ fn is_near(taken: u32, fineness: u8, level: u32, rank: u32) -> bool
     requires reached { rank ≤ taken }
     ensures near { result ≡ nat_lt (taken - rank) ((2 * fineness + 1) * 2 ^ level) }
 {
-    taken - rank < (2 * fineness as u32 + 1) << level
+    taken - rank < (2 * u32::from(fineness) + 1) << level
 }
 
 // The largest kept rank below one that `level` keeps, and a level that keeps it to go on from.
@@ -52,6 +52,7 @@ pub(crate) fn older(taken: u32, fineness: u8, rank: u32, level: u32) -> Option<(
     ensures older { Older taken fineness rank result }
 {
     let mut next = rank.checked_sub(1 << level)?;
+    // A loop: as `find_map` over the levels, what the closure asks at each of them did not prove.
     for higher in level..LEVELS {
         next = rounded(next, higher);
         if is_near(taken, fineness, higher, next) {

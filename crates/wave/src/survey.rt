@@ -1,12 +1,13 @@
 // One walk over the kept ranks, newest first, that tests the wave and counts.
 ghost use Rattle.std.specs.Prelude.{◌≡◌, ◌≤◌, ◌&&◌, is_some, if◌then◌else◌, Some, None, Decides, nat_lt};
 ghost use Rattle.window.specs.Stamps.{is_live};
-ghost use Rattle.wave.specs.Waves.{stamp_of, in_range, sound, low_of, high_of, wave_low, wave_high};
+ghost use Rattle.wave.specs.Waves.{stamp_of, sound, low_of, high_of};
 ghost use Rattle.wave.specs.Soundness.{Sound};
 ghost use Rattle.wave.specs.Walks.{fits, looked, estimated};
 
 use crate::Wave;
 use crate::ranks::{older, place_of};
+use window::settings::in_range;
 use window::stamps::is_live;
 
 // The most that may be live at the last stamp over the window.
@@ -18,7 +19,7 @@ struct Seen {
     // the oldest stamp, or the last stamp before any
     oldest: u32,
     // the ranks from the smallest live one on
-    low: u32,
+    low: Option<u32>,
     // the ranks after the largest dead one
     high: Option<u32>,
 }
@@ -28,10 +29,8 @@ impl Seen {
     fn estimate(self) -> (u32, u32)
         ensures estimated { result ≡ estimated self }
     {
-        if self.low == 0 {
-            return (0, 0);
-        }
-        (self.low, self.high.unwrap_or(self.low).min(8190))
+        self.low
+            .map_or((0, 0), |low| (low, self.high.unwrap_or(low).min(8190)))
     }
 }
 
@@ -43,13 +42,6 @@ fn is_rank_live(rank: u32, stamp: u32, t: u32, v: u32) -> bool
 }
 
 impl Wave {
-    // Whether window and fineness lie in their ranges.
-    fn is_in_range(&self) -> bool
-        ensures ranged { result ≡ in_range self.now.window self.now.fineness }
-    {
-        self.window >= 1 && self.fineness >= 1 && self.fineness <= 6
-    }
-
     // The stamp of a rank.
     fn stamp_of(&self, rank: u32) -> u32
         ensures held { result ≡ stamp_of self.now rank }
@@ -80,14 +72,14 @@ impl Wave {
         if is_rank_live(rank, oldest, t, v) {
             Some(Seen {
                 oldest,
-                low: newer + 1,
-                high: seen.high,
+                low: Some(newer + 1),
+                ..seen
             })
         } else {
             Some(Seen {
                 oldest,
-                low: seen.low,
                 high: Some(seen.high.unwrap_or(newer)),
+                ..seen
             })
         }
     }
@@ -97,28 +89,21 @@ impl Wave {
         ensures surveyed { result ≡ (if sound self.now then Some (low_of self.now t v, high_of self.now t v) else None) }
         ensures tested { Decides (is_some result) (Sound self.now) }
     {
-        if !self.is_in_range() {
+        if !in_range(self.window, self.fineness) {
             return None;
         }
         let mut seen = Seen {
             oldest: self.last,
-            low: 0,
+            low: None,
             high: None,
         };
+        // `iter::successors` would be no plainer: nothing says of it that the ranks fall, so that it ends.
         let mut next = Some((self.taken, 0));
         while let Some((rank, level)) = next {
             seen = self.look(t, v, rank, seen)?;
             next = older(self.taken, self.fineness, rank, level);
         }
         Some(seen.estimate())
-    }
-
-    // Low and high at t over v; one that is not sound counts 0 and 0.
-    pub(crate) fn estimate(&self, t: u32, v: u32) -> (u32, u32)
-        ensures low { result.0 ≡ wave_low self.now t v }
-        ensures high { result.1 ≡ wave_high self.now t v }
-    {
-        self.survey(t, v).unwrap_or((0, 0))
     }
 
     // Whether the wave is sound.

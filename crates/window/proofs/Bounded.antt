@@ -1,5 +1,5 @@
 -- Tests over the numbers below a bound say what they are named for.
-use Rattle.std.proofs.Common.{◌≡◌, ℕ, ◌+◌, ◌<◌, Bool, true, ◌&&◌, ◌||◌, Decides, refl, add-one}
+use Rattle.std.proofs.Common.{◌≡◌, ℕ, ◌+◌, ◌<◌, Bool, true, ◌||◌, Decides, refl, add-one}
 use Rattle.std.proofs.lemmas.Bool.Decides.{Decides-below_and, Decides-below_or}
 use Rattle.window.specs.Below.{all_below, any_below}
 
@@ -26,10 +26,6 @@ pub any_at : (p : ℕ → Bool) (n : ℕ) → any_below p n ≡ true → (i : �
 any_at p n h = (any_decides p (λ i. p i ≡ true) (λ i. ((λ e. e), (λ e. e))) n).0 h
 
 -- one more, as a loop has it
-pub all_more : (p : ℕ → Bool) (n : ℕ) → all_below p (n + 1) ≡ (p n && all_below p n)
-unfolding all_below
-all_more p n = rw add-one refl
-
 pub any_more : (p : ℕ → Bool) (n : ℕ) → any_below p (n + 1) ≡ (p n || any_below p n)
 unfolding any_below
 any_more p n = rw add-one refl

@@ -1,4 +1,5 @@
 pub mod Stamps
+pub mod Settings
 pub mod Below
 pub mod Meaning
 pub mod Causes

@@ -23,7 +23,8 @@ pub enum CounterFault {
 }
 
 impl CounterFault {
-    // The number by which the fault is known.
+    // The number by which the fault is known. A method, not a conversion: the numbers are published
+    // beside the faults of the crates above, and only the name says which numbers they are.
     pub fn number(self) -> u8
         ensures numbered { result ≡ number self }
     {

@@ -1,5 +1,6 @@
+use Rattle.std.proofs.Common.{rules}
 use Rattle.ring.specs.Standing.{fresh}
 use Rattle.ring.proofs.RingCounter.make.Goals as goal
 
 pub returns : goal.returns
-returns c = record { fresh = fresh c.args.window c.args.fineness c.empty.result c.empty.ensures.empty }
+returns c = record { fresh = fresh c.args.window c.args.fineness _ (search rules) }

@@ -1,7 +1,7 @@
 use Rattle.std.proofs.Common.{◌≡◌, ◌-◌, ◌^◌, ◌<◌, sym, arith}
 use Rattle.std.proofs.lemmas.Bool.{ltb-true, ltb-false}
 use Rattle.std.proofs.lemmas.Nat.{one_shl}
-use Rattle.wave.proofs.Walking.{stand_low, none_below, coming_taken, coming_first, coming_rounded, coming_higher, coming_found, coming_none}
+use Rattle.wave.proofs.Walking.{stand_low, none_below, coming_taken, coming_first, coming_rounded, coming_higher, coming_found}
 use Rattle.wave.proofs.ranks.older.Goals as goal
 
 pub overflow_shl-level : goal.overflow_shl-level
@@ -22,14 +22,10 @@ loop-higher-init c =
     let is : c.in_ok-next.next ≡ c.args.rank - 2 ^ c.args.level = omega (arith, e, f.1) in
     rw is (coming_first c.args.taken c.args.fineness c.args.level c.args.rank c.requires.stands (omega (arith, e, f.0)))
 
-pub is_near-requires : goal.is_near-requires
-is_near-requires c =
+pub is_near-requires-clause-reached : goal.is_near-requires-clause-reached
+is_near-requires-clause-reached c =
     let r = coming_rounded c.args.taken c.args.fineness c.args.rank c.loop-higher.next c.loop-higher.higher c.rounded-next.result c.rounded-next.ensures.rounded c.loop-higher.invariant in
-    record {
-      within = c.loop-higher-test.true;
-      fine = c.requires.fine;
-      reached = coming_taken c.args.taken c.args.fineness c.args.level c.args.rank c.rounded-next.result c.loop-higher.higher c.requires.stands r;
-    }
+    coming_taken c.args.taken c.args.fineness c.args.level c.args.rank c.rounded-next.result c.loop-higher.higher c.requires.stands r
 
 pub returns-then-is_near : goal.returns-then-is_near
 returns-then-is_near c =
@@ -48,6 +44,3 @@ loop-higher-preserved c =
     let le = coming_taken c.args.taken c.args.fineness c.args.level c.args.rank y c.loop-higher.higher c.requires.stands r in
     let near = c.if-is_near.ensures.near in
     coming_higher c.args.taken c.args.fineness c.args.rank y c.loop-higher.higher r (ltb-false _ _ (sym near)) le
-
-pub returns : goal.returns
-returns c = record { older = coming_none c.args.taken c.args.fineness c.args.rank c.loop-higher.next c.loop-higher.higher (omega (arith, c.loop-higher-test.false)) c.loop-higher.invariant }

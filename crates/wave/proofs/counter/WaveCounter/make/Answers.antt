@@ -1,8 +1,9 @@
-use Rattle.std.proofs.Common.{arith}
+use Rattle.std.proofs.Common.{arith, rules}
 use Rattle.wave.proofs.Laws.{makes}
 use Rattle.wave.proofs.counter.WaveCounter.make.Goals as goal
 
-pub returns : goal.returns
-returns c =
-    let all = makes c.args.window c.args.fineness c.new.result (omega arith) c.new.ensures.made in
-    record { fresh = all.0; made = c.new.ensures.made; sound = all.1 }
+pub returns-clause-fresh : goal.returns-clause-fresh
+returns-clause-fresh c = (makes c.args.window c.args.fineness _ (omega arith) (search rules)).0
+
+pub returns-clause-sound : goal.returns-clause-sound
+returns-clause-sound c = (makes c.args.window c.args.fineness _ (omega arith) (search rules)).1
