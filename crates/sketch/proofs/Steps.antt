@@ -1,8 +1,7 @@
 -- The columns of successive nodes follow from one another.
-use Rattle.std.proofs.Common.{◌≡◌, ℕ, zero, suc, ◌+◌, ◌-◌, ◌*◌, ◌/◌, ◌%◌, ◌^◌, ◌<◌, ◌≤◌, min, cond, eqb, List, length, get_or, set, sym, refl, ap, ◌∙◌, subst, ⊎_elim, add-one, arith}
+use Rattle.std.proofs.Common.{◌≡◌, ℕ, zero, suc, ◌+◌, ◌-◌, ◌*◌, ◌/◌, ◌%◌, ◌^◌, ◌<◌, ◌≤◌, min, cond, eqb, List, get_or, sym, refl, ap, ◌∙◌, subst, ⊎_elim, add-one, arith}
 use lib.Bits.{bit_xor, xor_zero_l, xor_self, xor_comm, xor_assoc}
 use lib.Count.{count_trailing_zeros}
-use Rattle.std.proofs.lemmas.List.{get_or-set_same, get_or-set_other}
 use Rattle.std.proofs.lemmas.Bool.{cases_order, cases_eq}
 use Rattle.std.proofs.lemmas.Nat.{shr_le}
 use Rattle.sketch.specs.Layout.{Shape, mixed, run, column}
@@ -101,11 +100,3 @@ column_followed s k r y before next runs tiny within running e first later =
     let low = few_zeros 32 y s.bits pos within in
     later pos ∙ ap (λ n. bit_xor n (get_or runs (count_trailing_zeros 32 y) 0)) e ∙ ap (bit_xor (column s k r (y - 1))) (running (count_trailing_zeros 32 y) low) ∙ sym (column_next s k r y tiny pos within))
     (cases_eq y 0)
-
--- one run more
-pub runs_more : (words : List ℕ) (p b mixed : ℕ) (runs : List ℕ) → b < length runs → mixed ≡ run words p (b + 1) → ((q : ℕ) → q < b → get_or runs q 0 ≡ run words p (q + 1)) → (q : ℕ) → q < b + 1 → get_or (set runs b mixed) q 0 ≡ run words p (q + 1)
-runs_more words p b mixed runs within e so_far q l =
-    ⊎_elim
-    (λ (same : q ≡ b). ap (λ n. get_or (set runs b mixed) n 0) same ∙ get_or-set_same runs b mixed 0 within ∙ e ∙ ap (λ n. run words p (n + 1)) (sym same))
-    (λ (other : q ≡ b → ⊥). get_or-set_other runs b q mixed 0 other ∙ so_far q (omega arith))
-    (cases_eq q b)

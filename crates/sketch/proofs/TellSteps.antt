@@ -4,13 +4,14 @@ use Rattle.std.proofs.lemmas.Nat.{mul-add-lt}
 use Rattle.std.proofs.lemmas.List.{length-set, get_or-set_same, get_or-set_other}
 use Rattle.std.proofs.lemmas.Bool.{cases_eq}
 use Rattle.window.specs.declared.CounterFault.{CounterFault}
-use Rattle.window.specs.Causes.{Admitted, Refused}
+use Rattle.window.specs.Causes.{Admitted}
 use Rattle.window.specs.Meaning.{Model}
-use Rattle.window.specs.Faults.{number, take_causes, Arrived, Took}
+use Rattle.window.specs.Faults.{take_causes, Arrived, Took}
 use Rattle.sketch.specs.declared.faults.CellFault.{CellFault}
-use Rattle.sketch.specs.Layout.{Shape, Sound, width, node_of, column, place}
+use Rattle.sketch.specs.declared.shape.Sketch.{Sketch}
+use Rattle.sketch.specs.Layout.{Shape, Sound, shape_of, width, node_of, column, place}
 use Rattle.sketch.specs.Answers.{PassedOn}
-use Rattle.sketch.specs.Telling.{order, key_place, ToldFrom, NamesFirst}
+use Rattle.sketch.specs.Telling.{order, key_place, ToldFrom, TellsFrom, NamesFirst}
 use Rattle.sketch.proofs.Cells.{place_same}
 use Rattle.sketch.proofs.NodeLaws.{column_below}
 
@@ -19,11 +20,6 @@ module _ {C : Type 0} (m : Model C) (c new : C) (k r col t : ℕ) where
   pub passed_ok : (answer : Result (Unit {0}) CounterFault) (out : Result (Unit {0}) CellFault) (u : Unit {0}) → PassedOn answer k r col t out → Took m c new t answer → out ≡ Ok u → Admitted (take_causes m c t) × Arrived m c new t
   passed_ok (Ok v) out u passed took e = took
   passed_ok (Err f) out u passed took e = let z : ◌≡◌ {A = ℕ} 0 1 = cc in absurd (omega arith)
-
-  pub passed_err : (answer : Result (Unit {0}) CounterFault) (out : Result (Unit {0}) CellFault) (f : CellFault) → PassedOn answer k r col t out → Took m c new t answer → out ≡ Err f
-      → (fault : CounterFault) × (f ≡ record { level = k; row = r; column = col; stamp = t; fault = fault }) × Refused (take_causes m c t) (number fault)
-  passed_err (Ok v) out f passed took e = let z : ◌≡◌ {A = ℕ} 0 1 = cc in absurd (omega arith)
-  passed_err (Err fault) out f passed took e = (fault, cc, took.0)
 
 module _ (s : Shape) (sound : Sound s) (x : ℕ) where
   -- a level and a row are read off their order
@@ -40,6 +36,12 @@ module _ (s : Shape) (sound : Sound s) (x : ℕ) where
 
   pub order_below : (k r : ℕ) → k ≤ s.bits → r < s.rows → order s k r < (s.bits + 1) * s.rows
   order_below k r kb rb = omega (arith, mul-add-lt k s.rows r (s.bits + 1) (omega arith) rb)
+
+-- what is told from the row after is told from the order after
+pub next_row : {C : Type 0} (m : Model C) (q q' : Sketch) (x t k r n : ℕ) (before after : List C) (out : Result (Unit {0}) CellFault)
+    → q' ≡ q → order (shape_of q) k r ≡ n → TellsFrom m (shape_of q') x t (order (shape_of q') k r) before after out → TellsFrom m (shape_of q) x t n before after out
+next_row m q q' x t k r n before after out same e told =
+    subst (λ n. TellsFrom m (shape_of q) x t n before after out) e (subst (λ q. TellsFrom m (shape_of q) x t (order (shape_of q) k r) before after out) same told)
 
 module _ {C : Type 0} (m : Model C) (s : Shape) (sound : Sound s) (x t : ℕ) (before : List C) where
   -- past the last row nothing is told
@@ -85,16 +87,4 @@ module _ {C : Type 0} (m : Model C) (s : Shape) (sound : Sound s) (x t : ℕ) (b
           subst (λ q. Admitted (take_causes m (get_or before q d) t)) (sym p) (admitted d))
           (λ (e : order s k' r' ≡ n → ⊥). w.earlier_take d k' r' kb' rb' (omega arith) before-it)
           (cases_eq (order s k' r') n);
-    }
-
-    -- the cell of one row refuses: it is the first
-    pub here_first : (col : ℕ) (fault : CounterFault) → col ≡ column s k r (node_of k x) → ((d : C) → Refused (take_causes m (get_or before at d) t) (number fault)) → NamesFirst m s x t n before (record { level = k; row = r; column = col; stamp = t; fault = fault })
-    here_first col fault e refused = record {
-      level = kb;
-      row = rb;
-      column = e;
-      stamp = refl;
-      refused = λ d. subst (λ q. Refused (take_causes m (get_or before q d) t) (number fault)) (at_is ∙ ap (place s k r) (sym e)) (refused d);
-      from_row = omega arith;
-      earlier_take = λ d k' r' kb' rb' l before-it. absurd (omega arith);
     }

@@ -1,18 +1,16 @@
 -- The pieces of a level are at most two: the ends of the range, as they rise from level to level.
-use Rattle.std.proofs.Common.{◌≡◌, ℕ, ◌+◌, ◌-◌, ◌*◌, ◌/◌, ◌%◌, ◌^◌, ◌<◌, ◌≤◌, Bool, true, false, cond, not, ◌&&◌, ◌||◌, eqb, ltb, leb, sym, refl, ap, ◌∙◌, ⊎_elim, arith, pow_mono}
-use Rattle.std.proofs.lemmas.Bool.{cases_eq, cases_lt, and_parts, and_from, leb-true, le-leb, ltb-true, lt-ltb, ne_eqb, eq-eqb, le-ltb, cond-true, cond-false}
+use Rattle.std.proofs.Common.{◌≡◌, ℕ, ◌+◌, ◌-◌, ◌*◌, ◌/◌, ◌%◌, ◌^◌, ◌<◌, ◌≤◌, Bool, true, false, cond, not, ◌&&◌, ◌||◌, eqb, ltb, leb, [], ◌∷◌, ◌++◌, length, sym, refl, ap, ◌∙◌, ⊎_elim, arith}
+use Rattle.std.specs.List.{AllByRecursion, sum_by}
+use Rattle.std.proofs.lemmas.List.Sums.{sum_by-cons}
+use Rattle.std.proofs.lemmas.Bool.{cases_eq, cases_lt, and_parts, and_from, leb-true, le-leb, ltb-true, ne_eqb, eq-eqb}
 use Rattle.std.proofs.lemmas.Bool.Decides.{nat_tests}
 use Rattle.std.proofs.lemmas.Nat.{pow_pos}
 use Rattle.sketch.specs.Extremes.{sum_below}
 use Rattle.sketch.specs.Layout.{nodes, first_key, last_key}
-use Rattle.sketch.specs.Pieces.{inside, is_piece, over_level}
+use Rattle.sketch.specs.Pieces.{inside, is_piece, odd_ends, over_level}
 use Rattle.sketch.proofs.Sums.{sum_adds, sum_none, sum_one, sum_more}
 use Rattle.sketch.proofs.Weaker.{and_true}
 use Rattle.sketch.proofs.Partition.{twice_pow}
-
--- what the two ends of a level give, until they meet: the first where it is a right half, the last where it is a left half
-abbrev pub two_ends : (ℕ → ℕ) → ℕ → ℕ → ℕ
-two_ends f lo hi = cond (ltb lo hi) (cond (eqb (lo % 2) 1) (f lo) 0 + cond (eqb (hi % 2) 1) (f (hi - 1)) 0) 0
 
 -- of the nodes of level k those from lo on and below hi lie wholly in the range
 pub record Ends (a b k lo hi : ℕ) : Type 0 where
@@ -23,14 +21,6 @@ bool_same true true h g = refl
 bool_same true false h g = sym (h refl)
 bool_same false true h g = g refl
 bool_same false false h g = refl
-
-pub ends_start : (a b : ℕ) → Ends a b 0 a (b + 1)
-ends_start a b = record {
-  between = λ i.
-      let from : i * 2 ^ 0 ≡ i = omega arith in
-      let to : (i + 1) * 2 ^ 0 - 1 ≡ i = omega arith in
-      ap (λ x. leb a x && leb ((i + 1) * 2 ^ 0 - 1) b) from ∙ ap (λ x. leb a i && leb x b) to ∙ ap (λ x. leb a i && x) (bool_same (leb i b) (ltb i (b + 1)) (λ h. lt-ltb i (b + 1) (omega (arith, leb-true i b h))) (λ h. le-leb i b (omega (arith, ltb-true i (b + 1) h))));
-}
 
 -- a node lies wholly in the range when both its halves do
 halves : (a b k j : ℕ) → inside a b (k + 1) j ≡ (inside a b k (2 * j) && inside a b k (2 * j + 1))
@@ -63,15 +53,15 @@ ends_up a b k lo hi e = record {
       halves a b k j ∙ ap (λ x. x && inside a b k (2 * j + 1)) (e.between (2 * j)) ∙ ap (λ x. (leb lo (2 * j) && ltb (2 * j) hi) && x) (e.between (2 * j + 1)) ∙ halved lo hi j;
 }
 
-join : (c p q : Bool) (x y : ℕ) → cond (p && c) x 0 + cond (q && c) y 0 ≡ cond c (cond p x 0 + cond q y 0) 0
-join true true true x y = refl
-join true true false x y = refl
-join true false true x y = refl
-join true false false x y = refl
-join false true true x y = refl
-join false true false x y = refl
-join false false true x y = refl
-join false false false x y = refl
+join : (c p q : Bool) (f : ℕ → ℕ) (x y : ℕ) → cond (p && c) (f x) 0 + cond (q && c) (f y) 0 ≡ sum_by f (cond c (cond p (x ∷ []) [] ++ cond q (y ∷ []) []) [])
+join true true true f x y = omega (arith, sum_by-cons f x (y ∷ []), sum_by-cons f y [])
+join true true false f x y = omega (arith, sum_by-cons f x [])
+join true false true f x y = omega (arith, sum_by-cons f y [])
+join true false false f x y = refl
+join false true true f x y = refl
+join false true false f x y = refl
+join false false true f x y = refl
+join false false false f x y = refl
 
 piece_below_top : (lo hi i x : ℕ) → cond ((leb lo i && ltb i hi) && not (leb ((lo + 1) / 2) (i / 2) && ltb (i / 2) (hi / 2))) x 0 ≡ cond ((eqb (lo % 2) 1 && ltb lo hi) && eqb i lo) x 0 + cond ((eqb (hi % 2) 1 && ltb lo hi) && eqb i (hi - 1)) x 0
 piece_below_top lo hi i x = grind (arith, nat_tests)
@@ -88,15 +78,15 @@ module _ (bits a b : ℕ) (f : ℕ → ℕ → ℕ) where
 
   -- the pieces of a level, among its n nodes
   level_pieces : (k lo hi : ℕ) → hi ≤ nodes bits k → ((i : ℕ) → i < nodes bits k → cond (is_piece bits a b k i) (f k i) 0 ≡ cond ((eqb (lo % 2) 1 && ltb lo hi) && eqb i lo) (f k i) 0 + cond ((eqb (hi % 2) 1 && ltb lo hi) && eqb i (hi - 1)) (f k i) 0)
-      → over_level bits a b f k ≡ two_ends (f k) lo hi
+      → over_level bits a b f k ≡ sum_by (f k) (odd_ends lo hi)
   level_pieces k lo hi top e =
       let all = sum_adds (λ i. cond (is_piece bits a b k i) (f k i) 0) (λ i. cond ((eqb (lo % 2) 1 && ltb lo hi) && eqb i lo) (f k i) 0) (λ i. cond ((eqb (hi % 2) 1 && ltb lo hi) && eqb i (hi - 1)) (f k i) 0) (nodes bits k) e in
       let first = at_one (eqb (lo % 2) 1 && ltb lo hi) (f k) lo (nodes bits k) (λ h. omega (arith, ltb-true lo hi (and_parts (eqb (lo % 2) 1) (ltb lo hi) h).1)) in
       let last = at_one (eqb (hi % 2) 1 && ltb lo hi) (f k) (hi - 1) (nodes bits k) (λ h. omega (arith, ltb-true lo hi (and_parts (eqb (hi % 2) 1) (ltb lo hi) h).1)) in
-      omega (arith, join (ltb lo hi) (eqb (lo % 2) 1) (eqb (hi % 2) 1) (f k lo) (f k (hi - 1)))
+      omega (arith, join (ltb lo hi) (eqb (lo % 2) 1) (eqb (hi % 2) 1) (f k) lo (hi - 1))
 
   -- the sum over the pieces of a level is what its two ends give
-  pub level_ends : (k lo hi : ℕ) → k ≤ bits → Ends a b k lo hi → hi ≤ nodes bits k → over_level bits a b f k ≡ two_ends (f k) lo hi
+  pub level_ends : (k lo hi : ℕ) → k ≤ bits → Ends a b k lo hi → hi ≤ nodes bits k → over_level bits a b f k ≡ sum_by (f k) (odd_ends lo hi)
   level_ends k lo hi l e top =
       ⊎_elim
       (λ (at : k ≡ bits).
@@ -118,15 +108,6 @@ module _ (bits a b : ℕ) (f : ℕ → ℕ → ℕ) where
 pub record Walked (bits a b k lo hi : ℕ) : Type 0 where
   pub ends : Ends a b k lo hi
   pub fits : hi ≤ nodes bits k
-  pub first : lo ≤ 1024
-  pub last : hi ≤ 1024
-
-pub walked_none : (bits a b : ℕ) → bits ≤ 10 → a ≤ b → b < 2 ^ bits → Walked bits a b 0 a (b + 1)
-walked_none bits a b tiny order within =
-    let e : bits - 0 ≡ bits = omega arith in
-    let p = ap (λ n. 2 ^ n) e in
-    let q : 2 ^ bits ≤ 2 ^ 10 = pow_mono tiny in
-    record { ends = ends_start a b; fits = omega arith; first = omega arith; last = omega arith }
 
 half_fits : (bits k hi : ℕ) → hi ≤ nodes bits k → hi / 2 ≤ nodes bits (k + 1)
 half_fits bits k hi h =
@@ -143,10 +124,10 @@ half_fits bits k hi h =
 
 pub walked_more : (bits a b k lo hi : ℕ) → Walked bits a b k lo hi → Walked bits a b (k + 1) ((lo + 1) / 2) (hi / 2)
 walked_more bits a b k lo hi w =
-    record { ends = ends_up a b k lo hi w.ends; fits = half_fits bits k hi w.fits; first = omega (arith, w.first); last = omega (arith, w.last) }
+    record { ends = ends_up a b k lo hi w.ends; fits = half_fits bits k hi w.fits }
 
 -- a sum over the pieces of one level more
-pub summed_more : (bits a b : ℕ) (f : ℕ → ℕ → ℕ) (k lo hi : ℕ) → Walked bits a b k lo hi → k ≤ bits → sum_below (over_level bits a b f) (k + 1) ≡ sum_below (over_level bits a b f) k + two_ends (f k) lo hi
+pub summed_more : (bits a b : ℕ) (f : ℕ → ℕ → ℕ) (k lo hi : ℕ) → Walked bits a b k lo hi → k ≤ bits → sum_below (over_level bits a b f) (k + 1) ≡ sum_below (over_level bits a b f) k + sum_by (f k) (odd_ends lo hi)
 summed_more bits a b f k lo hi w l = omega (arith, sum_more (over_level bits a b f) k, level_ends bits a b f k lo hi l w.ends w.fits)
 
 -- the ends that are met are pieces
@@ -161,14 +142,25 @@ module _ (bits a b k lo hi : ℕ) (w : Walked bits a b k lo hi) where
   piece_by_ends i =
       ap (λ c. c && (eqb k bits || not (inside a b (k + 1) (i / 2)))) (w.ends.between i) ∙ ap (λ c. (leb lo i && ltb i hi) && (eqb k bits || not c)) ((ends_up a b k lo hi w.ends).between (i / 2))
 
-  pub first_is_piece : lo < hi → eqb (lo % 2) 1 ≡ true → is_piece bits a b k lo ≡ true
-  first_is_piece h e = piece_by_ends lo ∙ first_of lo hi (eqb k bits) h e
+  of_both : (c p q : Bool) (x y : ℕ) (P : ℕ → Type 0) → (c ≡ true → p ≡ true → P x) → (c ≡ true → q ≡ true → P y) → AllByRecursion P (cond c (cond p (x ∷ []) [] ++ cond q (y ∷ []) []) [])
+  of_both true true true x y P f g = (f refl refl, (g refl refl, tt))
+  of_both true true false x y P f g = (f refl refl, tt)
+  of_both true false true x y P f g = (g refl refl, tt)
+  of_both true false false x y P f g = tt
+  of_both false p q x y P f g = tt
 
-  pub last_is_piece : lo < hi → eqb (hi % 2) 1 ≡ true → is_piece bits a b k (hi - 1) ≡ true
-  last_is_piece h e = piece_by_ends (hi - 1) ∙ last_of lo hi (eqb k bits) h e
+  pub ends_are_pieces : AllByRecursion (λ i. is_piece bits a b k i ≡ true) (odd_ends lo hi)
+  ends_are_pieces =
+      of_both (ltb lo hi) (eqb (lo % 2) 1) (eqb (hi % 2) 1) lo (hi - 1) (λ i. is_piece bits a b k i ≡ true)
+      (λ apart odd. piece_by_ends lo ∙ first_of lo hi (eqb k bits) (ltb-true lo hi apart) odd)
+      (λ apart odd. piece_by_ends (hi - 1) ∙ last_of lo hi (eqb k bits) (ltb-true lo hi apart) odd)
 
-pub ends_apart : (f : ℕ → ℕ) (lo hi : ℕ) → lo < hi → two_ends f lo hi ≡ cond (eqb (lo % 2) 1) (f lo) 0 + cond (eqb (hi % 2) 1) (f (hi - 1)) 0
-ends_apart f lo hi h = cond-true (ltb lo hi) (cond (eqb (lo % 2) 1) (f lo) 0 + cond (eqb (hi % 2) 1) (f (hi - 1)) 0) 0 (lt-ltb lo hi h)
-
-pub ends_met : (f : ℕ → ℕ) (lo hi : ℕ) → hi ≤ lo → two_ends f lo hi ≡ 0
-ends_met f lo hi h = cond-false (ltb lo hi) (cond (eqb (lo % 2) 1) (f lo) 0 + cond (eqb (hi % 2) 1) (f (hi - 1)) 0) 0 (le-ltb lo hi h)
+pub few_ends : (lo hi : ℕ) → length (odd_ends lo hi) ≤ 2
+few_ends lo hi = go (ltb lo hi) (eqb (lo % 2) 1) (eqb (hi % 2) 1)
+  where
+    go : (c p q : Bool) → length (cond c (cond p (lo ∷ []) [] ++ cond q ((hi - 1) ∷ []) []) []) ≤ 2
+    go true true true = omega arith
+    go true true false = omega arith
+    go true false true = omega arith
+    go true false false = omega arith
+    go false p q = omega arith

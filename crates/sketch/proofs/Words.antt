@@ -1,15 +1,8 @@
 -- Where the seed words of a level and row stand, and one word more of a column.
-use Rattle.std.proofs.Common.{◌≡◌, ℕ, ◌+◌, ◌*◌, ◌/◌, ◌%◌, ◌^◌, ◌<◌, ◌≤◌, cond, List, get_or, ap, ◌∙◌, mul-le-mul, add-one, arith}
+use Rattle.std.proofs.Common.{◌≡◌, ℕ, ◌+◌, ◌/◌, ◌%◌, ◌^◌, cond, List, get_or, ap, ◌∙◌, add-one}
 use lib.Bits.{bit_xor, xor_zero_r}
-use Rattle.std.proofs.lemmas.Nat.{mul-add-lt}
 use Rattle.std.proofs.lemmas.Bool.{eq-eqb, ne_eqb}
 use Rattle.sketch.specs.Layout.{mixed}
-
-pub row_place : (k rows r bits : ℕ) → k ≤ bits → r < rows → bits ≤ 10 → rows ≤ 4 → k * rows + r < 44
-row_place k rows r bits kb rb tiny few = omega (arith, mul-add-lt k rows r (bits + 1) (omega arith) rb, mul-le-mul few (let h : bits + 1 ≤ 11 = omega arith in h))
-
-pub word_place : (q bits b : ℕ) → q < 44 → b < bits → bits ≤ 10 → q * bits + b < 440
-word_place q bits b h l tiny = omega (arith, mul-add-lt q bits b 44 h l)
 
 pub mixed_more_yes : (words : List ℕ) (p n i : ℕ) → i / 2 ^ n % 2 ≡ 1 → mixed words p (n + 1) i ≡ bit_xor (mixed words p n i) (get_or words (p + n) 0)
 mixed_more_yes words p n i h = ap (λ m. mixed words p m i) (add-one n) ∙ ap (λ c. bit_xor (mixed words p n i) (cond c (get_or words (p + n) 0) 0)) (eq-eqb (i / 2 ^ n % 2) 1 h)

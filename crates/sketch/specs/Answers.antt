@@ -1,5 +1,6 @@
 -- What a question about a node or a key range is answered with.
 use Rattle.std.specs.Prelude.{◌≡◌, ℕ, ◌<◌, ◌≤◌, Bool, true, false, cond, List, is_some, Some, None, Ok, Err, Option, Result, slice_index}
+use Rattle.arrayvec.specs.ArrayVec.{ArrayVec, array_vec_len}
 use Rattle.window.specs.Causes.{first_cause, Refused}
 use Rattle.window.specs.Meaning.{Model}
 use Rattle.window.specs.Faults.{number, count_causes}
@@ -38,10 +39,10 @@ pub record NamesRefusing {C : Type 0} (m : Model C) (s : Shape) (cells : List C)
   pub stamp : f.stamp ≡ t
   pub refused : (d : C) → Refused (count_causes m (cell_at s cells d k f.row f.column) t v) (number f.fault)
 
--- the lows of the cells of node i, row by row, and its high, where none of its cells refuses
-abbrev pub RowsAnswer : {C : Type 0} → Model C → Shape → List C → (t v k i : ℕ) → Result (List ℕ × ℕ) CellFault → Type 0
+-- the lows of the cells of node i, one for each row, and its high, where none of its cells refuses
+abbrev pub RowsAnswer : {C : Type 0} → Model C → Shape → List C → (t v k i : ℕ) → Result (ArrayVec ℕ × ℕ) CellFault → Type 0
 RowsAnswer {C} m s cells t v k i (Ok pair) =
-    (d : C) → (refusing_cells m s cells d t v k i ≡ 0) × ((r : ℕ) → r < s.rows → slice_index pair.0 r ≡ m.low (cell_of s cells d k i r) t v) × (pair.1 ≡ node_high m s cells d t v k i)
+    (array_vec_len pair.0 ≡ s.rows) × ((d : C) → (refusing_cells m s cells d t v k i ≡ 0) × ((r : ℕ) → r < s.rows → slice_index pair.0.items r ≡ m.low (cell_of s cells d k i r) t v) × (pair.1 ≡ node_high m s cells d t v k i))
 RowsAnswer m s cells t v k i (Err f) = NamesRefusing m s cells t v k i f
 
 -- the answer on the high of node i of level k, where none of its cells refuses
@@ -60,12 +61,6 @@ abbrev pub ReachAnswer : {C : Type 0} → Model C → Shape → List C → (enro
 ReachAnswer m s cells enrolled t v k i g (Ok (Some pair)) = (g ≤ pair.1) × NodeAnswer m s cells enrolled t v k i (Ok pair)
 ReachAnswer {C} m s cells enrolled t v k i g (Ok None) = (d : C) → (refusing_cells m s cells d t v k i ≡ 0) × (node_high m s cells d t v k i < g)
 ReachAnswer m s cells enrolled t v k i g (Err f) = NamesRefusing m s cells t v k i f
-
--- the answer on a node that is a piece, and 0 on another
-abbrev pub PieceAnswer : {C : Type 0} → Model C → Shape → List C → (enrolled t v k i : ℕ) → Bool → Result (ℕ × ℕ) CellFault → Type 0
-PieceAnswer {C} m s cells enrolled t v k i piece (Ok pair) =
-    (d : C) → (cond piece (refusing_cells m s cells d t v k i) 0 ≡ 0) × (pair.0 ≡ cond piece (node_low m s cells d enrolled t v k i) 0) × (pair.1 ≡ cond piece (node_high m s cells d t v k i) 0)
-PieceAnswer m s cells enrolled t v k i piece (Err f) = (piece ≡ true) × NamesRefusing m s cells t v k i f
 
 -- the answer on the keys from a to b: their low and high, where no cell of a piece refuses
 abbrev pub RangeAnswer : {C : Type 0} → Model C → Shape → List C → (enrolled t v a b : ℕ) → Result (ℕ × ℕ) CellFault → Type 0

@@ -23,14 +23,11 @@ pub fn at_cell<T>(
 ) -> Result<T, CellFault>
     ensures passed { PassedOn answer level row column stamp result }
 {
-    match answer {
-        Ok(x) => Ok(x),
-        Err(fault) => Err(CellFault {
-            level,
-            row,
-            column,
-            stamp,
-            fault,
-        }),
-    }
+    answer.map_err(|fault| CellFault {
+        level,
+        row,
+        column,
+        stamp,
+        fault,
+    })
 }

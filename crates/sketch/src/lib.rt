@@ -6,6 +6,7 @@ pub mod faults;
 pub mod laws;
 pub mod places;
 pub mod question;
+mod rows;
 pub mod shape;
 pub mod telling;
 pub mod worked;

@@ -5,7 +5,8 @@ ghost use Rattle.sketch.specs.Layout.{shape_of, cell_number};
 use crate::shape::Sketch;
 use window::Counter;
 
-// At time t over span v, with so many keys enrolled. There are as many cells as the sketch has.
+// At time t over span v, with so many keys enrolled. There are as many cells as the sketch has. Calls
+// and counters take t and v as plain arguments, as they are made with them.
 #[derive(Drop)]
 pub struct Question<'a, C: Counter> {
     pub sketch: &'a Sketch,

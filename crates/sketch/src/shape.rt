@@ -12,7 +12,7 @@ pub struct Sketch {
     pub rows: u32,
     // a row has 2 to the power of this many cells
     pub spread: u32,
-    // the word for bit b of level k and row r at place (k * rows + r) * bits + b
+    // the word for bit b of level k and row r at place (k * rows + r) * bits + b; 440 at most, in the plain struct
     pub words: [u16; 440],
     ghost some_window: { 0 < window },
     ghost some_fineness: { 0 < fineness },

@@ -1,4 +1,4 @@
-// A sketch from its seed words, and questions to it whose answers can be compared.
+// A sketch from its seed words, and questions to it.
 ghost use Rattle.std.specs.Prelude.{◌≡◌, ◌+◌, ◌*◌, ◌^◌, ◌<◌, ◌≤◌, length};
 ghost use Rattle.sketch.specs.Layout.{shape_of, cell_number};
 
@@ -10,15 +10,29 @@ use std::process::Abort;
 use std::test::Fail;
 use window::{Counter, CounterFault};
 
-// The level, row, column and stamp of a refusal, and why.
-pub type Refusal = (u32, u32, u32, u32, CounterFault);
-
 // How many keys are enrolled, the asked time and the span.
 #[derive(Clone, Copy)]
 pub struct Asked {
     pub enrolled: u32,
     pub t: u32,
     pub v: u32,
+}
+
+impl Asked {
+    // The question put to these cells.
+    pub fn of<'a, C: Counter>(self, sketch: &'a Sketch, cells: &'a [C]) -> Question<'a, C>
+        requires sized { length cells.now ≡ cell_number (shape_of sketch.now) }
+        requires room { self.enrolled ≤ 2 ^ sketch.now.bits }
+        ensures same { result.sketch.now ≡ sketch.now }
+    {
+        Question {
+            sketch,
+            cells,
+            enrolled: self.enrolled,
+            t: self.t,
+            v: self.v,
+        }
+    }
 }
 
 // A sketch with these seed words, each brought to a column, and 0 for the others.
@@ -34,6 +48,7 @@ pub fn sketch_with(bits: u32, rows: u32, spread: u32, seeds: &[u16]) -> Sketch
 {
     let width: u16 = 1 << spread;
     let mut words: [u16; 440] = [0; 440];
+    // by index: a proof does not know what was written through the items of `iter_mut().zip(..)`
     for (p, seed) in seeds.iter().enumerate() {
         if p < 440 {
             words[p] = *seed % width;
@@ -49,28 +64,15 @@ pub fn sketch_with(bits: u32, rows: u32, spread: u32, seeds: &[u16]) -> Sketch
     }
 }
 
-// An answer, with the parts of a refusal side by side.
-pub fn told<T>(answer: Result<T, CellFault>) -> Result<T, Refusal> {
-    match answer {
-        Ok(x) => Ok(x),
-        Err(f) => Err((f.level, f.row, f.column, f.stamp, f.fault)),
+// The refusal of the cell of this level, row and column.
+pub fn refusal(level: u32, row: u32, column: u32, stamp: u32, fault: CounterFault) -> CellFault {
+    CellFault {
+        level,
+        row,
+        column,
+        stamp,
+        fault,
     }
-}
-
-// Tells one stamp of the key so many times.
-pub fn tell_times<C: Counter>(
-    sketch: &Sketch,
-    cells: &mut [C],
-    key: u32,
-    t: u32,
-    times: u32,
-) -> Result<(), Refusal>
-    requires sized { length cells.old ≡ cell_number (shape_of sketch.now) }
-{
-    for _ in 0..times {
-        told(sketch.tell(cells, key, t))?;
-    }
-    Ok(())
 }
 
 // Tells the stamps of the key, one after the other.
@@ -79,103 +81,25 @@ pub fn tell_stamps<C: Counter>(
     cells: &mut [C],
     key: u32,
     stamps: &[u32],
-) -> Result<(), Refusal>
+) -> Result<(), CellFault>
     requires sized { length cells.old ≡ cell_number (shape_of sketch.now) }
 {
     for t in stamps {
-        told(sketch.tell(cells, key, *t))?;
+        sketch.tell(cells, key, *t)?;
     }
     Ok(())
-}
-
-// The answer on a node.
-pub fn ask_node<'a, C: Counter>(
-    sketch: &'a Sketch,
-    cells: &'a [C],
-    asked: Asked,
-    level: u32,
-    node: u32,
-) -> Result<(u32, u32), Refusal>
-    requires sized { length cells.now ≡ cell_number (shape_of sketch.now) }
-    requires room { asked.enrolled ≤ 2 ^ sketch.now.bits }
-    requires level { level ≤ sketch.now.bits }
-{
-    let Asked { enrolled, t, v } = asked;
-    let question = Question {
-        sketch,
-        cells,
-        enrolled,
-        t,
-        v,
-    };
-    let answer = told(question.node(level, node));
-    let Question {
-        sketch: _,
-        cells: _,
-        enrolled: _,
-        t: _,
-        v: _,
-    } = question;
-    answer
-}
-
-// The answer on the keys from first to last.
-pub fn ask_range<'a, C: Counter>(
-    sketch: &'a Sketch,
-    cells: &'a [C],
-    asked: Asked,
-    first: u32,
-    last: u32,
-) -> Result<(u64, u64), Refusal>
-    requires sized { length cells.now ≡ cell_number (shape_of sketch.now) }
-    requires room { asked.enrolled ≤ 2 ^ sketch.now.bits }
-    requires order { first ≤ last }
-    requires within { last < 2 ^ sketch.now.bits }
-{
-    let Asked { enrolled, t, v } = asked;
-    let question = Question {
-        sketch,
-        cells,
-        enrolled,
-        t,
-        v,
-    };
-    let answer = told(question.range(first, last));
-    let Question {
-        sketch: _,
-        cells: _,
-        enrolled: _,
-        t: _,
-        v: _,
-    } = question;
-    answer
-}
-
-// Whether each ring holds what the one beside it holds.
-pub fn same_rings(a: &[Ring], b: &[Ring]) -> bool {
-    for (x, y) in a.iter().zip(b.iter()) {
-        if x.last != y.last || x.taken != y.taken || x.stamps != y.stamps {
-            return false;
-        }
-    }
-    a.len() == b.len()
 }
 
 // Tells each of 8 keys, one more time than its number.
-pub fn tell_each<C: Counter>(sketch: &Sketch, cells: &mut [C], t: u32) -> Result<(), Refusal>
+pub fn tell_each<C: Counter>(sketch: &Sketch, cells: &mut [C], t: u32) -> Result<(), CellFault>
     requires sized { length cells.old ≡ cell_number (shape_of sketch.now) }
 {
     for key in 0..8 {
-        tell_times(sketch, cells, key, t, key + 1)?;
+        for _ in 0..=key {
+            sketch.tell(cells, key, t)?;
+        }
     }
     Ok(())
-}
-
-// The next of a row of numbers without a plain pattern.
-fn scrambled(x: u32) -> u32 {
-    let a = x ^ (x << 13);
-    let b = a ^ (a >> 17);
-    b ^ (b << 5)
 }
 
 // Tells plays of 8 keys to exact cells and to others, and asks both for key ranges: the exact
@@ -194,13 +118,15 @@ pub fn compare_run<C: Counter>(
 {
     let mut x: u32 = 1;
     let mut t: u32 = 0;
-    let mut sums: (u64, u64, u64) = (0, 0, 0);
+    let mut lows: u64 = 0;
+    let mut lives: u64 = 0;
+    let mut highs: u64 = 0;
     for _ in 0..400 {
-        x = scrambled(x);
+        x = xorshift::next(x);
         t = t.saturating_add(x % 3);
         let key = x / 4 % 8;
-        told(exact.tell(exact_cells, key, t))?;
-        told(rough.tell(rough_cells, key, t))?;
+        exact.tell(exact_cells, key, t)?;
+        rough.tell(rough_cells, key, t)?;
         let asked = Asked {
             enrolled: 8,
             t,
@@ -208,15 +134,15 @@ pub fn compare_run<C: Counter>(
         };
         let last = x / 4096 % 8;
         let first = last.min(key);
-        let (live, same) = ask_range(exact, exact_cells, asked, first, last)?;
-        let (low, high) = ask_range(rough, rough_cells, asked, first, last)?;
+        let (live, same) = asked.of(exact, exact_cells).range(first, last)?;
+        let (low, high) = asked.of(rough, rough_cells).range(first, last)?;
         assert_eq!(rt; live, same);
         assert!(rt; low <= live);
         assert!(rt; live <= high);
-        sums.0 = sums.0.saturating_add(low);
-        sums.1 = sums.1.saturating_add(live);
-        sums.2 = sums.2.saturating_add(high);
+        lows = lows.saturating_add(low);
+        lives = lives.saturating_add(live);
+        highs = highs.saturating_add(high);
     }
-    assert!(rt; sums.0 < sums.1 && sums.1 < sums.2);
+    assert!(rt; lows < lives && lives < highs);
     Ok(())
 }

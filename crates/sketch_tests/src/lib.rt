@@ -6,10 +6,7 @@ mod helpers;
 
 #[cfg(test)]
 mod tests {
-    use crate::helpers::{
-        Asked, ask_node, ask_range, compare_run, same_rings, sketch_with, tell_each, tell_stamps,
-        tell_times, told,
-    };
+    use crate::helpers::{Asked, compare_run, refusal, sketch_with, tell_each, tell_stamps};
     use histogram::Histogram;
     use ring::Ring;
     use std::test::Fail;
@@ -53,10 +50,10 @@ mod tests {
             t: 30,
             v: 50,
         };
-        assert_eq!(rt; ask_node(&s, &cells, asked, 0, 0)?, (3, 3));
-        assert_eq!(rt; ask_node(&s, &cells, asked, 0, 1)?, (0, 0));
-        assert_eq!(rt; ask_node(&s, &cells, asked, 0, 2)?, (0, 3));
-        assert_eq!(rt; ask_range(&s, &cells, asked, 0, 0)?, (3, 3));
+        assert_eq!(rt; asked.of(&s, &cells).node(0, 0)?, (3, 3));
+        assert_eq!(rt; asked.of(&s, &cells).node(0, 1)?, (0, 0));
+        assert_eq!(rt; asked.of(&s, &cells).node(0, 2)?, (0, 3));
+        assert_eq!(rt; asked.of(&s, &cells).range(0, 0)?, (3, 3));
         Ok(())
     }
 
@@ -70,13 +67,13 @@ mod tests {
             t: 30,
             v: 21,
         };
-        assert_eq!(rt; ask_node(&s, &cells, within, 0, 0)?, (3, 3));
+        assert_eq!(rt; within.of(&s, &cells).node(0, 0)?, (3, 3));
         let after = Asked {
             enrolled: 1,
             t: 30,
             v: 20,
         };
-        assert_eq!(rt; ask_node(&s, &cells, after, 0, 0)?, (1, 1));
+        assert_eq!(rt; after.of(&s, &cells).node(0, 0)?, (1, 1));
         Ok(())
     }
 
@@ -84,19 +81,19 @@ mod tests {
     fn keys_that_share_a_column_are_counted_together(rt: HostRuntime) -> Result<(), Fail> {
         let s = sketch_with(2, 1, 1, &[]);
         let mut cells = [Ring::make(50, 1); 6];
-        tell_times(&s, &mut cells, 0, 10, 2)?;
-        tell_times(&s, &mut cells, 1, 10, 3)?;
+        tell_stamps(&s, &mut cells, 0, &[10; 2])?;
+        tell_stamps(&s, &mut cells, 1, &[10; 3])?;
         let asked = Asked {
             enrolled: 2,
             t: 10,
             v: 50,
         };
-        assert_eq!(rt; ask_node(&s, &cells, asked, 0, 0)?, (0, 5));
-        assert_eq!(rt; ask_node(&s, &cells, asked, 0, 1)?, (0, 5));
-        assert_eq!(rt; ask_range(&s, &cells, asked, 0, 0)?, (0, 5));
+        assert_eq!(rt; asked.of(&s, &cells).node(0, 0)?, (0, 5));
+        assert_eq!(rt; asked.of(&s, &cells).node(0, 1)?, (0, 5));
+        assert_eq!(rt; asked.of(&s, &cells).range(0, 0)?, (0, 5));
         // one node above covers both, and no other covers an enrolled key
-        assert_eq!(rt; ask_node(&s, &cells, asked, 1, 0)?, (5, 5));
-        assert_eq!(rt; ask_range(&s, &cells, asked, 0, 1)?, (5, 5));
+        assert_eq!(rt; asked.of(&s, &cells).node(1, 0)?, (5, 5));
+        assert_eq!(rt; asked.of(&s, &cells).range(0, 1)?, (5, 5));
         Ok(())
     }
 
@@ -104,15 +101,15 @@ mod tests {
     fn one_clear_row_is_enough(rt: HostRuntime) -> Result<(), Fail> {
         let s = sketch_with(2, 2, 1, &[0, 0, 1, 0]);
         let mut cells = [Ring::make(50, 1); 12];
-        tell_times(&s, &mut cells, 0, 10, 2)?;
-        tell_times(&s, &mut cells, 1, 10, 3)?;
+        tell_stamps(&s, &mut cells, 0, &[10; 2])?;
+        tell_stamps(&s, &mut cells, 1, &[10; 3])?;
         let asked = Asked {
             enrolled: 2,
             t: 10,
             v: 50,
         };
-        assert_eq!(rt; ask_node(&s, &cells, asked, 0, 0)?, (2, 2));
-        assert_eq!(rt; ask_node(&s, &cells, asked, 0, 1)?, (3, 3));
+        assert_eq!(rt; asked.of(&s, &cells).node(0, 0)?, (2, 2));
+        assert_eq!(rt; asked.of(&s, &cells).node(0, 1)?, (3, 3));
         Ok(())
     }
 
@@ -127,12 +124,12 @@ mod tests {
             t: 10,
             v: 50,
         };
-        assert_eq!(rt; ask_node(&s, &cells, asked, 0, 1)?, (2, 2));
-        assert_eq!(rt; ask_node(&s, &cells, asked, 1, 1)?, (7, 7));
-        assert_eq!(rt; ask_node(&s, &cells, asked, 1, 2)?, (11, 11));
-        assert_eq!(rt; ask_node(&s, &cells, asked, 0, 6)?, (7, 7));
-        assert_eq!(rt; ask_range(&s, &cells, asked, 1, 6)?, (27, 27));
-        assert_eq!(rt; ask_range(&s, &cells, asked, 0, 7)?, (36, 36));
+        assert_eq!(rt; asked.of(&s, &cells).node(0, 1)?, (2, 2));
+        assert_eq!(rt; asked.of(&s, &cells).node(1, 1)?, (7, 7));
+        assert_eq!(rt; asked.of(&s, &cells).node(1, 2)?, (11, 11));
+        assert_eq!(rt; asked.of(&s, &cells).node(0, 6)?, (7, 7));
+        assert_eq!(rt; asked.of(&s, &cells).range(1, 6)?, (27, 27));
+        assert_eq!(rt; asked.of(&s, &cells).range(0, 7)?, (36, 36));
         Ok(())
     }
 
@@ -147,10 +144,10 @@ mod tests {
             t: 10,
             v: 50,
         };
-        assert_eq!(rt; ask_node(&s, &cells, asked, 0, 1)?, (0, 36));
-        assert_eq!(rt; ask_node(&s, &cells, asked, 1, 2)?, (0, 36));
-        assert_eq!(rt; ask_range(&s, &cells, asked, 1, 6)?, (0, 144));
-        assert_eq!(rt; ask_range(&s, &cells, asked, 0, 7)?, (36, 36));
+        assert_eq!(rt; asked.of(&s, &cells).node(0, 1)?, (0, 36));
+        assert_eq!(rt; asked.of(&s, &cells).node(1, 2)?, (0, 36));
+        assert_eq!(rt; asked.of(&s, &cells).range(1, 6)?, (0, 144));
+        assert_eq!(rt; asked.of(&s, &cells).range(0, 7)?, (36, 36));
         Ok(())
     }
 
@@ -158,18 +155,18 @@ mod tests {
     fn a_full_cell_refuses_for_all(rt: HostRuntime) -> Result<(), Fail> {
         let s = sketch_with(2, 1, 1, &[1, 0]);
         let mut cells = [Ring::make(50, 1); 6];
-        tell_times(&s, &mut cells, 1, 10, 256)?;
+        tell_stamps(&s, &mut cells, 1, &[10; 256])?;
         let before = cells;
-        let full = Err((0, 0, 1, 59, CounterFault::Full));
-        assert_eq!(rt; told(s.tell(&mut cells, 1, 59)), full);
-        assert!(rt; same_rings(&cells, &before));
-        assert_eq!(rt; told(s.tell(&mut cells, 1, 60)), Ok(()));
+        let full = Err(refusal(0, 0, 1, 59, CounterFault::Full));
+        assert_eq!(rt; s.tell(&mut cells, 1, 59), full);
+        assert_eq!(rt; cells, before);
+        assert_eq!(rt; s.tell(&mut cells, 1, 60), Ok(()));
         let asked = Asked {
             enrolled: 2,
             t: 60,
             v: 50,
         };
-        assert_eq!(rt; ask_node(&s, &cells, asked, 0, 1)?, (1, 1));
+        assert_eq!(rt; asked.of(&s, &cells).node(0, 1)?, (1, 1));
         Ok(())
     }
 
@@ -178,18 +175,18 @@ mod tests {
         // keys 0 and 1 have cells of their own in level 0, and one cell in level 1
         let s = sketch_with(2, 1, 1, &[1, 0]);
         let mut cells = [Ring::make(50, 1); 6];
-        tell_times(&s, &mut cells, 0, 10, 128)?;
-        tell_times(&s, &mut cells, 1, 10, 128)?;
+        tell_stamps(&s, &mut cells, 0, &[10; 128])?;
+        tell_stamps(&s, &mut cells, 1, &[10; 128])?;
         let before = cells;
-        let full = Err((1, 0, 0, 59, CounterFault::Full));
-        assert_eq!(rt; told(s.tell(&mut cells, 0, 59)), full);
-        assert!(rt; same_rings(&cells, &before));
+        let full = Err(refusal(1, 0, 0, 59, CounterFault::Full));
+        assert_eq!(rt; s.tell(&mut cells, 0, 59), full);
+        assert_eq!(rt; cells, before);
         let asked = Asked {
             enrolled: 2,
             t: 59,
             v: 50,
         };
-        assert_eq!(rt; ask_node(&s, &cells, asked, 0, 0)?, (128, 128));
+        assert_eq!(rt; asked.of(&s, &cells).node(0, 0)?, (128, 128));
         Ok(())
     }
 
@@ -197,14 +194,14 @@ mod tests {
     fn an_earlier_stamp_is_refused(rt: HostRuntime) -> Result<(), Fail> {
         let s = sketch_with(2, 1, 1, &[1, 0]);
         let mut cells = [Ring::make(50, 1); 6];
-        tell_times(&s, &mut cells, 0, 10, 1)?;
+        tell_stamps(&s, &mut cells, 0, &[10; 1])?;
         let before = cells;
         // key 1 has a cell of its own in level 0, where 9 is not early
         assert_eq!(rt;
-            told(s.tell(&mut cells, 1, 9)),
-            Err((1, 0, 0, 9, CounterFault::Early))
+            s.tell(&mut cells, 1, 9),
+            Err(refusal(1, 0, 0, 9, CounterFault::Early))
         );
-        assert!(rt; same_rings(&cells, &before));
+        assert_eq!(rt; cells, before);
         Ok(())
     }
 
@@ -220,14 +217,12 @@ mod tests {
             t: 10,
             v: 50,
         };
-        let early = Err((0, 0, 1, 10, CounterFault::Early));
-        assert_eq!(rt; ask_node(&s, &cells, asked, 0, 1), early);
-        assert_eq!(rt; ask_node(&s, &cells, asked, 0, 0), Ok((0, 0)));
-        assert_eq!(rt;
-            ask_range(&s, &cells, asked, 1, 3),
-            Err((0, 0, 1, 10, CounterFault::Early))
-        );
-        assert_eq!(rt; ask_range(&s, &cells, asked, 2, 3), Ok((0, 0)));
+        let question = asked.of(&s, &cells);
+        let early = refusal(0, 0, 1, 10, CounterFault::Early);
+        assert_eq!(rt; question.node(0, 1), Err(early));
+        assert_eq!(rt; question.node(0, 0), Ok((0, 0)));
+        assert_eq!(rt; question.range(1, 3), Err(early));
+        assert_eq!(rt; question.range(2, 3), Ok((0, 0)));
     }
 
     #[test]
@@ -240,8 +235,8 @@ mod tests {
             v: 51,
         };
         assert_eq!(rt;
-            ask_node(&s, &cells, long, 0, 3),
-            Err((0, 0, 1, 10, CounterFault::Span))
+            long.of(&s, &cells).node(0, 3),
+            Err(refusal(0, 0, 1, 10, CounterFault::Span))
         );
         let none = Asked {
             enrolled: 2,
@@ -249,8 +244,8 @@ mod tests {
             v: 0,
         };
         assert_eq!(rt;
-            ask_range(&s, &cells, none, 0, 3),
-            Err((2, 0, 0, 10, CounterFault::Span))
+            none.of(&s, &cells).range(0, 3),
+            Err(refusal(2, 0, 0, 10, CounterFault::Span))
         );
     }
 
@@ -264,9 +259,9 @@ mod tests {
             t: 7,
             v: 4,
         };
-        assert_eq!(rt; ask_node(&s, &cells, asked, 0, 0)?, (4, 7));
-        assert_eq!(rt; ask_node(&s, &cells, asked, 0, 2)?, (0, 7));
-        assert_eq!(rt; ask_range(&s, &cells, asked, 0, 2)?, (4, 14));
+        assert_eq!(rt; asked.of(&s, &cells).node(0, 0)?, (4, 7));
+        assert_eq!(rt; asked.of(&s, &cells).node(0, 2)?, (0, 7));
+        assert_eq!(rt; asked.of(&s, &cells).range(0, 2)?, (4, 14));
         Ok(())
     }
 

@@ -6,4 +6,5 @@ use Rattle.sketch.proofs.question.Question.node_reaching.Goals as goal
 pub returns : goal.returns
 returns g c =
     let self = c.args.self.now in
-    record { answered = (omega arith, node_from_rows g.C.Counter.model (shape_of self.sketch.now) self.cells.now self.t self.v c.args.level c.args.node self.enrolled c.low.result c.in_ok-lows.lows c.in_ok-lows.high c.low.ensures.largest c.in_ok-lows.ensures.answered) }
+    let largest = rw c.deref.ensures.0 at c.low.ensures.largest in
+    record { answered = (omega arith, node_from_rows g.C.Counter.model (shape_of self.sketch.now) self.cells.now self.t self.v c.args.level c.args.node self.enrolled c.low.result c.in_ok-lows.lows c.in_ok-lows.high largest c.in_ok-lows.ensures.answered) }
