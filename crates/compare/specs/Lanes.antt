@@ -3,7 +3,7 @@ use Rattle.std.specs.Prelude.{◌≡◌, ℕ, ◌≤◌, List, [], ◌∷◌, �
 use Rattle.window.specs.declared.CounterFault.{CounterFault}
 use Rattle.window.specs.Causes.{Admitted, Refused}
 use Rattle.window.specs.Stamps.{live_count}
-use Rattle.window.specs.Meaning.{Model, Stands}
+use Rattle.window.specs.Meaning.{Model}
 use Rattle.window.specs.Faults.{number, count_causes, take_causes}
 use Rattle.compare.specs.declared.answer.Answer.{Answer}
 use Rattle.compare.specs.declared.answer.LaneFault.{LaneFault}
@@ -15,9 +15,9 @@ pub record Truthful (plays : List ℕ) (t v : ℕ) (a : Answer) : Type 0 where
   pub above_low : a.low ≤ a.truth
   pub below_high : a.truth ≤ a.high
 
--- what a question answers where the counter stands for the plays kept: a truthful answer; and in any case the counter's own refusal
+-- what a question answers: a truthful answer, or the counter's own refusal
 abbrev pub Answered : {C : Type 0} → Model C → C → List ℕ → ℕ → ℕ → Result Answer CounterFault → Type 0
-Answered m c plays t v (Ok a) = Admitted (count_causes m c t v) × (Stands m c plays → Truthful plays t v a)
+Answered m c plays t v (Ok a) = Admitted (count_causes m c t v) × Truthful plays t v a
 Answered m c plays t v (Err f) = Refused (count_causes m c t v) (number f)
 
 -- what a play does to the plays kept: added at their end, or left as they were where the counter refuses it or memory fails

@@ -1,5 +1,5 @@
 // One counter's way through an evening: what it answers, and how it did.
-use crate::answer::LaneFault;
+use crate::answer::{Answer, LaneFault};
 use crate::lane::Lane;
 use anyhow::anyhow;
 use std::alloc::Global;
@@ -7,7 +7,7 @@ use std::io::Write;
 use window::Counter;
 
 // How a counter did.
-#[derive(Clone, Copy)]
+#[derive(Clone, Copy, Default)]
 struct Tally {
     taken: u32,
     refused: u32,
@@ -25,17 +25,10 @@ pub struct Course<C: Counter> {
 
 impl<C: Counter> Course<C> {
     pub(crate) fn new(heap: Global, name: &'static str, window: u32, fineness: u8) -> Self {
-        let tally = Tally {
-            taken: 0,
-            refused: 0,
-            asked: 0,
-            exact: 0,
-            widest: 0,
-        };
         Course {
             name,
             lane: Lane::new(heap, window, fineness),
-            tally,
+            tally: Tally::default(),
         }
     }
 
@@ -67,16 +60,13 @@ impl<C: Counter> Course<C> {
     ) -> anyhow::Result<()> {
         let name = self.name;
         match self.lane.ask(t, span) {
-            Ok(answer) => {
-                let gap = answer.high.saturating_sub(answer.low);
+            Ok(Answer { truth, low, high }) => {
+                let gap = high.saturating_sub(low);
                 self.tally.asked = self.tally.asked.saturating_add(1);
                 if gap == 0 {
                     self.tally.exact = self.tally.exact.saturating_add(1);
                 }
                 self.tally.widest = self.tally.widest.max(gap);
-                let truth = answer.truth;
-                let low = answer.low;
-                let high = answer.high;
                 writeln!(
                     out,
                     "  {name:<10} truth {truth:>5}  low {low:>5}  high {high:>5}"
@@ -96,12 +86,13 @@ impl<C: Counter> Course<C> {
     // How it did over the evening.
     pub(crate) fn close<W: Write>(&self, out: &mut W) -> anyhow::Result<()> {
         let name = self.name;
-        let tally = self.tally;
-        let taken = tally.taken;
-        let refused = tally.refused;
-        let asked = tally.asked;
-        let exact = tally.exact;
-        let widest = tally.widest;
+        let Tally {
+            taken,
+            refused,
+            asked,
+            exact,
+            widest,
+        } = self.tally;
         writeln!(
             out,
             "  {name:<10} took {taken}, refused {refused}; answered {asked}, {exact} of them exactly; widest gap {widest}"

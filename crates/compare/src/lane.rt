@@ -1,7 +1,7 @@
 // A counter beside the plays that it took, so that its answers can be held against the truth.
-ghost use Rattle.std.specs.Prelude.{◌≡◌, min, [], length, take};
-ghost use Rattle.window.specs.Stamps.{live_count};
+ghost use Rattle.std.specs.Prelude.{◌≡◌, [], ◌≤◌, length};
 ghost use Rattle.window.specs.Meaning.{Fresh, Stands};
+ghost use Rattle.window.specs.Faults.{most_taken};
 ghost use Rattle.compare.specs.Lanes.{Answered, Played};
 
 use crate::answer::{Answer, LaneFault};
@@ -9,26 +9,20 @@ use std::alloc::Global;
 use window::stamps::live_among;
 use window::{Counter, CounterFault};
 
-// How many of the first `taken` plays are live at t over v.
-fn live_of_taken(plays: &[u32], taken: u32, t: u32, v: u32) -> u32
-    ensures live { result ≡ live_count t v (take (min (length plays.now) taken) plays.now) }
-{
-    let many = plays.len().min(taken as usize);
-    live_among(&plays[0..many], t, v)
-}
-
+// The counter stands for the plays, of which there are no more than a counter takes.
 #[derive(Drop)]
 pub struct Lane<C: Counter> {
     counter: C,
     plays: Vec<u32>,
+    ghost stands: { Stands C.Counter.model counter plays.items },
+    ghost few: { length plays.items ≤ most_taken },
 }
 
 impl<C: Counter> Lane<C> {
-    // No play yet: the counter stands for that.
+    // No play yet.
     pub fn new(heap: Global, window: u32, fineness: u8) -> Self
         ensures fresh { Fresh C.Counter.model window fineness result.counter }
         ensures empty { result.plays.items ≡ [] }
-        ensures stands { Stands C.Counter.model result.counter result.plays.items }
     {
         Lane {
             counter: C::make(window, fineness),
@@ -36,10 +30,9 @@ impl<C: Counter> Lane<C> {
         }
     }
 
-    // One play more, or a refusal that leaves all as it was. The counter goes on standing for the plays.
+    // One play more, or a refusal that leaves all as it was.
     pub fn play(&mut self, t: u32) -> Result<(), LaneFault>
         ensures played { Played C.Counter.model self.old.counter self.old.plays.items self.new.plays.items t result }
-        ensures stands { Stands C.Counter.model self.old.counter self.old.plays.items → Stands C.Counter.model self.new.counter self.new.plays.items }
     {
         let mut told = self.counter;
         told.take(t)?;
@@ -53,7 +46,7 @@ impl<C: Counter> Lane<C> {
         ensures answered { Answered C.Counter.model self.now.counter self.now.plays.items t v result }
     {
         let (low, high) = self.counter.count(t, v)?;
-        let truth = live_of_taken(&self.plays, self.counter.taken(), t, v);
+        let truth = live_among(&self.plays, t, v);
         Ok(Answer { truth, low, high })
     }
 }

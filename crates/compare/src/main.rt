@@ -7,20 +7,22 @@ mod lane;
 mod script;
 
 use course::Course;
+use hall::lines::Lines;
 use script::{Entry, Trouble, entry_of};
 use std::alloc::Global;
-use std::io::{BufRead, BufReader, BufWriter, Write};
+use std::io::{BufWriter, Write};
 
 const WINDOW: u32 = 3600;
 
 const FINENESS: u8 = 2;
 
-// Every counter there is, each on its own course.
+// Every counter there is, each on its own course. Three fields, as three known types need no list of boxes.
 #[derive(Drop)]
 struct Evening {
     ring: Course<ring::Ring>,
     histogram: Course<histogram::Histogram>,
     wave: Course<wave::Wave>,
+    // a flag, as the courses are the same before and after the first play or question
     begun: bool,
 }
 
@@ -66,8 +68,8 @@ fn step<W: Write>(
     text: &[u8],
 ) -> anyhow::Result<()> {
     match entry_of(text) {
-        Ok(Entry::Nothing) => {}
-        Ok(Entry::Settings { window, fineness }) => {
+        Ok(None) => {}
+        Ok(Some(Entry::Settings { window, fineness })) => {
             if evening.begun {
                 let trouble = Trouble::SettingsTooLate;
                 writeln!(out, "line {line}: {trouble}")?;
@@ -75,8 +77,8 @@ fn step<W: Write>(
                 *evening = Evening::new(heap, window, fineness);
             }
         }
-        Ok(Entry::Play { t }) => evening.play(out, line, t)?,
-        Ok(Entry::Ask { t, span }) => evening.ask(out, line, t, span)?,
+        Ok(Some(Entry::Play { t })) => evening.play(out, line, t)?,
+        Ok(Some(Entry::Ask { t, span })) => evening.ask(out, line, t, span)?,
         Err(trouble) => writeln!(out, "line {line}: {trouble}")?,
     }
     Ok(())
@@ -84,16 +86,15 @@ fn step<W: Write>(
 
 fn run(rt: &HostRuntime) -> anyhow::Result<()> {
     let heap = rt.alloc();
-    let mut input = BufReader::new(heap, rt.stdin())?;
+    let mut lines = Lines::new(heap, rt.stdin())?;
     let mut out = BufWriter::new(heap, rt.stdout())?;
     let mut evening = Evening::new(heap, WINDOW, FINENESS);
-    let mut text = Vec::new(heap);
-    for line in 1..u64::MAX {
-        text.clear();
-        if input.read_until(b'\n', &mut text)? == 0 {
+    // a count, the form for a loop that waits on input
+    for _ in 0..u64::MAX {
+        let Some((number, line)) = lines.next()? else {
             break;
-        }
-        step(heap, &mut evening, &mut out, line, &text)?;
+        };
+        step(heap, &mut evening, &mut out, number, line)?;
     }
     evening.close(&mut out)?;
     out.flush()?;

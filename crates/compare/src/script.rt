@@ -1,10 +1,9 @@
 // The lines of an evening: `settings WINDOW FINENESS`, `play TIME`, `ask TIME SPAN`, a comment after `#`, or nothing.
 use std::fmt;
+use std::str::FromStr;
 
 #[derive(Clone, Copy)]
 pub enum Entry {
-    // an empty line or a comment
-    Nothing,
     Settings { window: u32, fineness: u8 },
     Play { t: u32 },
     Ask { t: u32, span: u32 },
@@ -36,39 +35,25 @@ impl fmt::Display for Trouble {
 }
 
 // A number of the line, where there is one.
-fn number(word: Option<&str>) -> Result<u32, Trouble> {
-    let Some(digits) = word else {
-        return Err(Trouble::NumberMissing);
-    };
-    match digits.parse::<u32>() {
-        Ok(n) => Ok(n),
-        Err(_) => Err(Trouble::NotANumber),
-    }
+fn number<N: FromStr<Err: Drop>>(word: Option<&str>) -> Result<N, Trouble> {
+    let digits = word.ok_or(Trouble::NumberMissing)?;
+    digits.parse().map_err(|_| Trouble::NotANumber)
 }
 
-fn fineness(word: Option<&str>) -> Result<u8, Trouble> {
-    match u8::try_from(number(word)?) {
-        Ok(n) => Ok(n),
-        Err(_) => Err(Trouble::NotANumber),
-    }
-}
-
-// What a line says.
-pub(crate) fn entry_of(line: &[u8]) -> Result<Entry, Trouble> {
-    let Ok(text) = std::str::from_utf8(line) else {
-        return Err(Trouble::NotText);
-    };
+// What a line says; an empty one and a comment say nothing.
+pub(crate) fn entry_of(line: &[u8]) -> Result<Option<Entry>, Trouble> {
+    let text = std::str::from_utf8(line).map_err(|_| Trouble::NotText)?;
     let mut words = text.split_whitespace();
     let Some(word) = words.next() else {
-        return Ok(Entry::Nothing);
+        return Ok(None);
     };
     if word.starts_with('#') {
-        return Ok(Entry::Nothing);
+        return Ok(None);
     }
     let entry = match word {
         "settings" => Entry::Settings {
             window: number(words.next())?,
-            fineness: fineness(words.next())?,
+            fineness: number(words.next())?,
         },
         "play" => Entry::Play {
             t: number(words.next())?,
@@ -81,6 +66,6 @@ pub(crate) fn entry_of(line: &[u8]) -> Result<Entry, Trouble> {
     };
     match words.next() {
         Some(_) => Err(Trouble::WordTooMany),
-        None => Ok(entry),
+        None => Ok(Some(entry)),
     }
 }

@@ -1,26 +1,18 @@
 // Lines of any bytes, read one by one. Empty ones are passed over.
 ghost use Rattle.std.specs.Prelude.{◌≡◌};
-ghost use Rattle.hall.specs.Lines.{ends_with_newline, without_newline};
+ghost use Rattle.hall.specs.Lines.{without_newline};
 
 use std::alloc::Global;
 use std::io::{BufRead, BufReader, Read, Result};
-
-// Whether the last byte is a newline.
-fn ends_with_newline(bytes: &[u8]) -> bool
-    ensures ends { result ≡ ends_with_newline bytes.now }
-{
-    let n = bytes.len();
-    n > 0 && bytes[n - 1] == b'\n'
-}
 
 // The bytes of a line without the newline at its end, where it has one.
 pub fn without_newline<'a>(bytes: &'a [u8]) -> &'a [u8]
     ensures cut { result.now ≡ without_newline bytes.now }
 {
-    if ends_with_newline(bytes) {
-        return &bytes[0..bytes.len() - 1];
+    match bytes {
+        [front @ .., b'\n'] => front,
+        _ => bytes,
     }
-    bytes
 }
 
 #[derive(Drop)]
@@ -40,19 +32,20 @@ impl<R: Read + Drop> Lines<R> {
         })
     }
 
-    // Reads the next line that has bytes; false where the input ends before.
-    pub fn next(&mut self) -> Result<bool> {
+    // Reads the next line that has bytes: its number, and the line without its newline. None where the input ends before.
+    pub fn next(&mut self) -> Result<Option<(u64, &[u8])>> {
+        // a count, the form for a loop that waits on input
         for _ in 0..u64::MAX {
             self.held.clear();
             if self.input.read_until(b'\n', &mut self.held)? == 0 {
-                return Ok(false);
+                return Ok(None);
             }
             self.number = self.number.saturating_add(1);
             if !self.line().is_empty() {
-                return Ok(true);
+                return Ok(Some((self.number, self.line())));
             }
         }
-        Ok(false)
+        Ok(None)
     }
 
     // The line read last, without its newline.

@@ -1,5 +1,5 @@
 -- Names, words and contents are known by their bytes.
-use Rattle.std.proofs.Common.{◌≡◌, ℕ, ◌-◌, ◌^◌, ◌<◌, ◌≤◌, Bool, true, false, cond, eqb, leb, List, [], ◌∷◌, length, get_or, Some, None, decimal, Option, sym, refl, ap, ◌∙◌, ⊎_elim, arith, eq-eqb, ne_eqb, leb-true, MatchOption}
+use Rattle.std.proofs.Common.{◌≡◌, ℕ, ◌-◌, ◌^◌, ◌<◌, Bool, true, false, cond, eqb, List, [], ◌∷◌, length, get_or, decimal, sym, refl, ap, ◌∙◌, ⊎_elim, arith, eq-eqb, ne_eqb}
 use Rattle.std.specs.List.{AllByRecursion}
 use Rattle.std.specs.Str.{bytes_eq}
 use Rattle.std.proofs.lemmas.List.{append_cancel_left}
@@ -13,7 +13,7 @@ use Rattle.logline.specs.declared.forms.Name.{Name}
 use Rattle.logline.specs.declared.forms.Name.TheVariants.{Kind as Kind-name, Window, Fine, Seed, Cab, T, Span, From, To, Least}
 use Rattle.logline.specs.declared.forms.Kind.{Kind}
 use Rattle.logline.specs.declared.forms.Kind.TheVariants.{Ring, Histogram, Wave}
-use Rattle.logline.specs.Forms.{head, names, label, letter_of}
+use Rattle.logline.specs.Forms.{head, label, letter_of}
 use Rattle.logline.specs.Pieces.{NoBlank}
 use Rattle.logline.specs.Events.{Content, number, serial, letter, content_text, content_shape, Sound, Allowed, Filled, field_text, field_texts}
 
@@ -26,24 +26,19 @@ clear_test : List ℕ → Bool
 clear_test [] = true
 clear_test (b ∷ bs) = cond (eqb b 32) false (clear_test bs)
 
--- what is seen of each form by computing: its first field tells its word and has no blank, and at most four fields follow
+-- what is seen of each form by computing: its first field tells its word and has no blank
 record FormFacts (w : Word) : Type 0 where
   known : word_by (head w) ≡ w
   clear : clear_test (head w) ≡ true
-  few : leb (length (names w)) 4 ≡ true
 
 form_facts : (w : Word) → FormFacts w
 unfolding word_by clear_test
-form_facts Open = record { known = refl; clear = refl; few = refl }
-form_facts Enrol = record { known = refl; clear = refl; few = refl }
-form_facts Play = record { known = refl; clear = refl; few = refl }
-form_facts Ask = record { known = refl; clear = refl; few = refl }
-form_facts Range = record { known = refl; clear = refl; few = refl }
-form_facts Listing = record { known = refl; clear = refl; few = refl }
-
--- no form has more than four fields after its first
-pub few_names : (w : Word) → length (names w) ≤ 4
-few_names w = omega (arith, leb-true, (form_facts w).few)
+form_facts Open = record { known = refl; clear = refl }
+form_facts Enrol = record { known = refl; clear = refl }
+form_facts Play = record { known = refl; clear = refl }
+form_facts Ask = record { known = refl; clear = refl }
+form_facts Range = record { known = refl; clear = refl }
+form_facts Listing = record { known = refl; clear = refl }
 
 -- a word is known by its first field
 pub same_word : (v w : Word) → head v ≡ head w → v ≡ w
@@ -139,13 +134,3 @@ pub clear_fields : (vs : List Content) (ns : List Name) (m : ℕ) → Filled vs 
 clear_fields [] ns m f = tt
 clear_fields (v ∷ vs) [] m f = absurd f
 clear_fields (v ∷ vs) (n ∷ ns) m f = (clear_field n v f.0.1, clear_fields vs ns (m - 1) f.1)
-
-one_byte : (bs : List ℕ) → length bs ≡ 1 → bs ≡ get_or bs 0 0 ∷ []
-one_byte [] h = absurd (omega arith)
-one_byte (b ∷ []) h = refl
-one_byte (b ∷ c ∷ bs) h = absurd (omega arith)
-
--- a text of one letter is the text of the kind that the letter stands for
-pub kind_by_text : (bs : List ℕ) (x : ℕ) (r : Option Kind) → length bs ≡ 1 → x ≡ get_or bs 0 0 → MatchOption r ((k : Kind) → x ≡ letter_of k → ⊥) (λ k. x ≡ letter_of k) → MatchOption r ((k : Kind) → bs ≡ letter_of k ∷ [] → ⊥) (λ k. bs ≡ letter_of k ∷ [])
-kind_by_text bs x None one is h = λ k e. h k (is ∙ ap (λ l. get_or l 0 0) e)
-kind_by_text bs x (Some k) one is h = one_byte bs one ∙ ap (λ y. y ∷ []) (sym is ∙ h)

@@ -1,11 +1,10 @@
 -- A line is cut at its blanks in one way.
-use Rattle.std.proofs.Common.{◌≡◌, ℕ, ◌+◌, ◌<◌, ◌≤◌, cond, List, [], ◌∷◌, ◌++◌, length, get_or, take, drop, Some, None, Option, sym, refl, ap, ◌∙◌, subst, ⊎_elim, append-nil, arith, Bor, ne_eqb, MatchOption}
+use Rattle.std.proofs.Common.{◌-◌, length-drop, ◌≡◌, ℕ, ◌+◌, ◌<◌, cond, List, [], ◌∷◌, ◌++◌, length, get_or, take, drop, sym, refl, ap, ◌∙◌, subst, ⊎_elim, append-nil, arith, ne_eqb}
 use Rattle.std.specs.List.{AllByRecursion}
 use Rattle.std.proofs.ByRecursion.{All-from_get_or}
 use Rattle.std.proofs.lemmas.List.{get_or-take, length-take-le, take-append-drop, take_all, drop_more}
 use Rattle.std.proofs.lemmas.Bool.{cases_eq}
 use Rattle.logline.specs.Pieces.{NoBlank, led, spaced, begun_by, cut}
-use Rattle.logline.specs.Steps.{rest_bytes, rest_pieces}
 
 -- a byte that is no blank goes to the first piece
 pub cut_other : (b : ℕ) (bs : List ℕ) → (b ≡ 32 → ⊥) → cut (b ∷ bs) ≡ begun_by b (cut bs)
@@ -66,17 +65,23 @@ some line (q ∷ qs) w = (q, qs, refl)
 pub cut_some : (line : List ℕ) → (p : List ℕ) × (ps : List (List ℕ)) × (cut line ≡ p ∷ ps)
 cut_some line = some line (cut line) (cut_makes line)
 
--- the bytes before the first blank, and what follows it
-module _ (bytes p : List ℕ) (n : ℕ) (within : n ≤ length bytes) (clear : (k : ℕ) → k < n → get_or bytes k 0 ≡ 32 → ⊥) (front : p ≡ take n bytes) where
-  pub clear_piece : NoBlank p
-  clear_piece =
-      let long : length p ≡ n = ap length front ∙ length-take-le n bytes within in
-      All-from_get_or (λ b. b ≡ 32 → ⊥) p 0 (λ k h e. let lt : k < n = omega arith in clear k lt (sym (ap (λ l. get_or l k 0) front ∙ get_or-take n bytes k 0 lt) ∙ e))
+module _ (bytes : List ℕ) (n : ℕ) (within : n < length bytes) where
+  -- the bytes before the first blank
+  pub clear_front : ((k : ℕ) → k < n → get_or bytes k 0 ≡ 32 → ⊥) → NoBlank (take n bytes)
+  clear_front clear =
+      let long = length-take-le n bytes (omega arith) in
+      All-from_get_or (λ b. b ≡ 32 → ⊥) (take n bytes) 0 (λ k h e. let lt : k < n = omega arith in clear k lt (sym (get_or-take n bytes k 0 lt) ∙ e))
 
-  pub whole_piece : (rest : Option (Bor (List ℕ))) → (n < length bytes → get_or bytes n 0 ≡ 32) → MatchOption rest (n ≡ length bytes) (λ r. (n < length bytes) × (r.now ≡ drop (n + 1) bytes)) → bytes ≡ p ++ rest_bytes rest
-  whole_piece None stops e = sym (append-nil p ∙ front ∙ take_all n bytes (omega arith))
-  whole_piece (Some r) stops e = sym (take-append-drop n bytes) ∙ (λ i. sym front i ++ drop_more bytes n 0 e.0 i) ∙ (λ i. p ++ stops e.0 i ∷ sym e.1 i)
+  -- a line made up of what stands before a blank and behind it
+  pub cut_at : get_or bytes n 0 ≡ 32 → bytes ≡ take n bytes ++ 32 ∷ take (length bytes - (n + 1)) (drop (n + 1) bytes)
+  cut_at blank =
+      let rest = take_all (length bytes - (n + 1)) (drop (n + 1) bytes) (omega (arith, length-drop (n + 1) bytes)) in
+      sym (take-append-drop n bytes) ∙ ap (λ l. take n bytes ++ l) (drop_more bytes n 0 within ∙ (λ i. blank i ∷ sym rest i))
 
-  pub cut_piece : (rest : Option (Bor (List ℕ))) → bytes ≡ p ++ rest_bytes rest → cut bytes ≡ p ∷ rest_pieces rest
-  cut_piece None e = ap cut e ∙ cut_front p [] [] clear_piece refl
-  cut_piece (Some r) e = ap cut e ∙ cut_front p (32 ∷ r.now) (cut r.now) clear_piece refl
+-- what follows the first blank is cut by itself
+pub cut_first : (bytes p rest : List ℕ) → NoBlank p → bytes ≡ p ++ 32 ∷ rest → cut bytes ≡ p ∷ cut rest
+cut_first bytes p rest clear e = ap cut e ∙ cut_front p (32 ∷ rest) (cut rest) clear refl
+
+-- a line without a blank is one piece
+pub cut_one : (bytes : List ℕ) → NoBlank bytes → cut bytes ≡ bytes ∷ []
+cut_one bytes clear = ap cut (sym (append-nil bytes)) ∙ cut_front bytes [] [] clear refl

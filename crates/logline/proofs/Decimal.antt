@@ -3,7 +3,7 @@ use Rattle.std.proofs.Common.{◌≡◌, ℕ, ◌+◌, ◌-◌, ◌*◌, ◌^◌
 use Rattle.std.specs.Str.Parse.{AllDigits, IsNumeral, digits_value}
 use Rattle.std.specs.Int.{IsInRange}
 use Rattle.std.proofs.str.Laws.{order}
-use Rattle.std.proofs.str.Numerals.{SoFar, one_more, too_large, all_read}
+use Rattle.std.proofs.str.Numerals.{SoFar, too_large, all_read}
 use Rattle.std.proofs.lemmas.Str.{digit_value_digit}
 use Rattle.std.proofs.lemmas.Str.Parse.{IsNumeralModel, numerals_by_value, tells_digits, digit_at}
 use Rattle.std.proofs.lemmas.Fmt.{decimal-digits_value, decimal_digit, first_decimal, decimal_is_IsNumeral}
@@ -30,11 +30,6 @@ no_number_zero bs long zero n h e =
     (order 0 n)
 
 module _ (bs : List ℕ) (i n : ℕ) (so_far : SoFar 10 bs (drop i bs) n) where
-  pub digit_more : i < length bs → (m : ℕ) → IsInRange 48 57 (get_or bs i 0) → m ≡ n * 10 + (get_or bs i 0 - 48) → SoFar 10 bs (drop (i + 1) bs) m
-  digit_more lt m digit e =
-      let v = digit_value_digit (get_or bs i 0) digit in
-      one_more 10 bs bs i n so_far lt m (omega arith) (omega arith)
-
   pub no_number_on : i < length bs → (IsInRange 48 57 (get_or bs i 0) → n * 10 + (get_or bs i 0 - 48) < 2 ^ 32 → ⊥) → (k : ℕ) → k < 2 ^ 32 → bs ≡ decimal k → ⊥
   no_number_on lt stop k h e =
       let is = numeral bs k h e in

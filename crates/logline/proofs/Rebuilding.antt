@@ -1,67 +1,89 @@
 -- An event made from what its fields hold.
-use Rattle.std.proofs.Common.{◌≡◌, ℕ, suc, ◌+◌, ◌-◌, ◌<◌, ◌≤◌, List, [], ◌∷◌, ◌++◌, map, length, get_or, drop, Some, sym, refl, ap, ◌∙◌, subst, arith}
-use Rattle.std.proofs.lemmas.List.{drop-drop, drop-map, drop_more, drop_all}
-use Rattle.logline.specs.declared.forms.Word.{Word}
+use Rattle.std.proofs.Common.{Bor, ◌≡◌, ℕ, zero, suc, ◌+◌, ◌-◌, ◌<◌, List, [], ◌∷◌, map, length, get_or, drop, Some, None, Option, MatchOption, sym, refl, ap, ◌∙◌, subst, arith}
+use Rattle.std.proofs.lemmas.List.{drop-map, drop_more}
 use Rattle.logline.specs.declared.forms.Name.{Name}
-use Rattle.logline.specs.declared.forms.Shape.TheVariants.{Number}
+use Rattle.logline.specs.declared.forms.Word.{Word}
+use Rattle.logline.specs.declared.forms.Kind.{Kind}
+use Rattle.logline.specs.declared.forms.Shape.{Shape}
+use Rattle.logline.specs.declared.forms.Shape.TheVariants.{Number, Serial, Letter}
+use Rattle.logline.specs.declared.fields.Field.TheVariants.{Number as Numbers, Serial as Serials, Letter as Letters}
 use Rattle.logline.specs.declared.fields.Field.{Field}
-use Rattle.logline.specs.Forms.{names, required, optional, shape_of}
-use Rattle.logline.specs.Events.{Content, number, content_shape, Filled, saying}
+use Rattle.logline.specs.Forms.{shape_of, names, required}
+use Rattle.logline.specs.Events.{Content, content_shape, number, Filled, saying, left_out}
 use Rattle.logline.specs.Fields.{content_of}
-use Rattle.logline.specs.Steps.{Holds, HoldsLast}
+use Rattle.logline.specs.Steps.{NoneAt, StandsAt}
 
--- the content at a place of a list of fields
-pub content_there : (list : List Field) (i : ℕ) (d : Field) → i < length list → drop i (map content_of list) ≡ content_of (get_or list i d) ∷ drop (i + 1) (map content_of list)
-content_there list i d lt = drop-map content_of i list ∙ ap (map content_of) (drop_more list i d lt) ∙ ap (λ l. content_of (get_or list i d) ∷ l) (sym (drop-map content_of (i + 1) list))
+-- what the field at a place holds stands there
+pub stands : (list : List Field) (i : ℕ) (f : Field) → i < length list → f ≡ get_or list i f → StandsAt (map content_of list) i (content_of f)
+stands list i f lt is = drop-map content_of i list ∙ ap (map content_of) (drop_more list i f lt) ∙ (λ k. content_of (sym is k) ∷ sym (drop-map content_of (i + 1) list) k)
 
-pub content_past : (list : List Field) (i : ℕ) → length list ≤ i → drop i (map content_of list) ≡ []
-content_past list i end = drop-map content_of i list ∙ ap (map content_of) (drop_all i list end)
+-- nothing else stands there
+pub stands_alone : (s : Shape) (list : List Field) (i : ℕ) (f : Field) → i < length list → f ≡ get_or list i f → (content_shape (content_of f) ≡ s → ⊥) → NoneAt s (map content_of list) i
+stands_alone s list i f lt is other u us e shape =
+    let first = stands list i f lt is in
+    let same : u ≡ content_of f = cc in
+    other (ap content_shape (sym same) ∙ shape)
 
-one_left : (v : Content) (us : List Content) (n : Name) → Filled (v ∷ us) (n ∷ []) 0 → us ≡ []
-one_left v [] n f = refl
-one_left v (u ∷ us) n f = absurd f.1
+-- a field of another variant has another shape
+pub no_number : (f : Field) → ((place : ℕ) (text : Bor (List ℕ)) (value : ℕ) → f ≡ Numbers place text value → ⊥) → content_shape (content_of f) ≡ Number → ⊥
+no_number (Numbers place text value) h s = h place text value refl
+no_number (Serials place text) h s = cc
+no_number (Letters place text kind) h s = cc
 
-pub last_there : (vs us : List Content) (i : ℕ) (w : Content) (k : ℕ) → drop i vs ≡ w ∷ us → (content_shape w ≡ Number → w ≡ number k) → HoldsLast vs i (Some k)
-last_there vs us i w k here held n s f =
-    let g : Filled (w ∷ us) (n ∷ []) 0 = subst (λ l. Filled l (n ∷ []) 0) here f in
-    let is = held (g.0.0 ∙ s) in
-    let end = one_left w us n g in
-    here ∙ (λ j. is j ∷ end j)
+pub no_serial : (f : Field) → ((place : ℕ) (text : Bor (List ℕ)) → f ≡ Serials place text → ⊥) → content_shape (content_of f) ≡ Serial → ⊥
+no_serial (Numbers place text value) h s = cc
+no_serial (Serials place text) h s = h place text refl
+no_serial (Letters place text kind) h s = cc
 
--- contents that were taken one after another
-abbrev pub HoldsEach : List Content → List Name → List Content → ℕ → Type 0
-HoldsEach [] [] vs i = Unit {0}
-HoldsEach [] (n ∷ ns) vs i = ⊥
-HoldsEach (c ∷ cs) [] vs i = ⊥
-HoldsEach (c ∷ cs) (n ∷ ns) vs i = Holds (shape_of n) vs i c × HoldsEach cs ns vs (suc i)
+pub no_letter : (f : Field) → ((place : ℕ) (text : Bor (List ℕ)) (kind : Kind) → f ≡ Letters place text kind → ⊥) → content_shape (content_of f) ≡ Letter → ⊥
+no_letter (Numbers place text value) h s = cc
+no_letter (Serials place text) h s = cc
+no_letter (Letters place text kind) h s = h place text kind refl
 
-taken_first : (c : Content) (n : Name) (ns os : List Name) (vs end : List Content) (i : ℕ) (xs : List Content) → Holds (shape_of n) vs i c → (Filled (drop (suc i) vs) (ns ++ os) (length ns) → drop (suc i) vs ≡ end) → drop i vs ≡ xs → Filled xs (n ∷ ns ++ os) (length (n ∷ ns)) → drop i vs ≡ c ∷ end
-taken_first c n ns os vs end i [] h more e f = absurd (omega (arith, f))
-taken_first c n ns os vs end i (u ∷ us) h more e f =
-    let first : u ≡ c = h u us e f.0.0 in
-    let less : length (n ∷ ns) - 1 ≡ length ns = omega arith in
-    let one : i + 1 ≡ suc i = omega arith in
-    let next : drop (suc i) vs ≡ us = ap (λ k. drop k vs) (sym one) ∙ sym (drop-drop 1 i vs) ∙ ap (drop 1) e in
-    let rest = more (subst (λ l. Filled l (ns ++ os) (length ns)) (sym next) (subst (Filled us (ns ++ os)) less f.1)) in
-    e ∙ (λ k. first k ∷ (sym next ∙ rest) k)
+-- the contents from a place on fill the names from there on
+pub filled_drop : (i : ℕ) (vs : List Content) (ns : List Name) (m : ℕ) → Filled vs ns m → Filled (drop i vs) (drop i ns) (m - i)
+filled_drop zero vs ns m f = let z : m - 0 ≡ m = omega arith in subst (Filled vs ns) (sym z) f
+filled_drop (suc i) [] ns m f = omega (arith, f)
+filled_drop (suc i) (v ∷ vs) [] m f = absurd f
+filled_drop (suc i) (v ∷ vs) (n ∷ ns) m f = let z : m - 1 - i ≡ m - suc i = omega arith in subst (Filled (drop i vs) (drop i ns)) z (filled_drop i vs ns (m - 1) f.1)
 
--- they are all there is, but for what follows them
-pub taken_back : (cs : List Content) (ns os : List Name) (vs tail : List Content) (i j : ℕ) → j ≡ i + length ns → HoldsEach cs ns vs i → (Filled (drop j vs) os 0 → drop j vs ≡ tail) → Filled (drop i vs) (ns ++ os) (length ns) → drop i vs ≡ cs ++ tail
-taken_back [] [] os vs tail i j at h last f =
-    let same : j ≡ i = omega arith in
-    subst (λ k. (Filled (drop k vs) os 0 → drop k vs ≡ tail)) same last f
-taken_back [] (n ∷ ns) os vs tail i j at h last f = absurd h
-taken_back (c ∷ cs) [] os vs tail i j at h last f = absurd h
-taken_back (c ∷ cs) (n ∷ ns) os vs tail i j at h last f = taken_first c n ns os vs (cs ++ tail) i (drop i vs) h.0 (taken_back cs ns os vs tail (suc i) j (omega arith) h.1 last) refl f
+missed_first : (vs us : List Content) (n : Name) (ns : List Name) (m : ℕ) → Filled us (n ∷ ns) m → 0 < m → vs ≡ us → NoneAt (shape_of n) vs 0 → ⊥
+missed_first vs [] n ns m f lt e none = omega (arith, f)
+missed_first vs (u ∷ us) n ns m f lt e none = none u us e f.0.0
 
--- a form with no field that may be left out
-pub none_last : (vs : List Content) → Filled vs [] 0 → vs ≡ []
-none_last [] f = refl
-none_last (v ∷ vs) f = absurd f
+none_left : (vs : List Content) (m : ℕ) → Filled vs [] m → vs ≡ []
+none_left [] m f = refl
+none_left (v ∷ vs) m f = absurd f
 
--- what the fields of a word hold is what was taken from them
-pub said_back : (word w : Word) (vs cs tail : List Content) → word ≡ w → Filled vs (names word) (length (required word)) → HoldsEach cs (required w) vs 0 → (Filled (drop (length (required w)) vs) (optional w) 0 → drop (length (required w)) vs ≡ tail) → saying w (cs ++ tail) ≡ saying word vs
-said_back word w vs cs tail e f h last =
-    let g : Filled vs (names w) (length (required w)) = subst (λ u. Filled vs (names u) (length (required u))) e f in
-    let back = taken_back cs (required w) (optional w) vs tail 0 (length (required w)) (omega arith) h last g in
-    λ k. saying (sym e k) (sym back k)
+last_left : (vs us : List Content) (i : ℕ) (n : Name) (m : ℕ) (r : Option ℕ) → MatchOption r (NoneAt Number vs i) (λ k. StandsAt vs i (number k)) → shape_of n ≡ Number → drop i vs ≡ us → Filled us (n ∷ []) m → drop i vs ≡ left_out r
+last_left vs [] i n m None h s e f = e
+last_left vs (u ∷ us) i n m None h s e f = absurd (h u us e (f.0.0 ∙ s))
+last_left vs [] i n m (Some k) h s e f = absurd (omega (arith, ap length (sym h ∙ e)))
+last_left vs (u ∷ []) i n m (Some k) h s e f =
+    let rest : drop (i + 1) vs ≡ [] = cc in
+    h ∙ ap (λ l. number k ∷ l) rest
+last_left vs (u ∷ w ∷ us) i n m (Some k) h s e f = absurd f.1
+
+-- what the fields of a word hold
+module _ (word w : Word) (vs : List Content) (is : word ≡ w) (filled : Filled vs (names word) (length (required word))) (i : ℕ) where
+  left : Filled (drop i vs) (drop i (names w)) (length (required w) - i)
+  left = filled_drop i vs (names w) (length (required w)) (subst (λ u. Filled vs (names u) (length (required u))) is filled)
+
+  -- a field that has to be there is there
+  pub missed : (n : Name) (rest : List Name) → drop i (names w) ≡ n ∷ rest → i < length (required w) → NoneAt (shape_of n) vs i → ⊥
+  missed n rest e lt none = missed_first (drop i vs) (drop i vs) n rest (length (required w) - i) (subst (λ l. Filled (drop i vs) l (length (required w) - i)) e left) (omega arith) refl none
+
+  -- nothing follows the last name
+  pub ended : drop i (names w) ≡ [] → drop i vs ≡ []
+  ended e = none_left (drop i vs) (length (required w) - i) (subst (λ l. Filled (drop i vs) l (length (required w) - i)) e left)
+
+  -- the last field, which may be left out
+  pub last : (n : Name) (r : Option ℕ) → drop i (names w) ≡ n ∷ [] → shape_of n ≡ Number → MatchOption r (NoneAt Number vs i) (λ k. StandsAt vs i (number k)) → drop i vs ≡ left_out r
+  last n r e s h = last_left vs (drop i vs) i n (length (required w) - i) r h s refl (subst (λ l. Filled (drop i vs) l (length (required w) - i)) e left)
+
+-- a content before others
+pub more : (vs us : List Content) (i : ℕ) (v : Content) → StandsAt vs i v → drop (i + 1) vs ≡ us → drop i vs ≡ v ∷ us
+more vs us i v h e = h ∙ ap (λ l. v ∷ l) e
+
+pub same_said : {word w : Word} {vs cs : List Content} → word ≡ w → vs ≡ cs → saying w cs ≡ saying word vs
+same_said e f = λ k. saying (sym e k) (sym f k)

@@ -2,7 +2,6 @@
 use Rattle.std.proofs.Common.{◌≡◌, ℕ, ◌≤◌, List, ◌++◌, length, take, drop, Ok, Err, Result, sym, ap, ◌∙◌, arith, MatchResult}
 use Rattle.std.proofs.lemmas.List.{take_at}
 use Rattle.logline.specs.declared.events.Event.{Event}
-use Rattle.logline.specs.declared.fields.Field.{Field}
 use Rattle.logline.specs.declared.faults.LineFault.{LineFault}
 use Rattle.logline.specs.declared.faults.LineFault.TheVariants.{Room, Form}
 use Rattle.logline.specs.Events.{Said, said, text, Says}
@@ -32,6 +31,6 @@ reads_back s was after (Ok n) w =
 reads_back s was after (Err f) w = tt
 
 -- a line whose fields were refused is refused
-pub refused : (line : List ℕ) (list : List Field) (f : LineFault) → Found line list (Err f) → ReadAs line (Err f)
-refused line list (Room k) h = h
-refused line list (Form p) h = h
+pub refused : (line : List ℕ) (f : LineFault) → Found line (Err f) → ReadAs line (Err f)
+refused line (Room k) h = h
+refused line (Form p) h = h

@@ -1,19 +1,17 @@
 -- Fields taken one after another from what is left of a line.
-use Rattle.std.proofs.Common.{◌≡◌, ℕ, ◌+◌, ◌-◌, ◌<◌, ◌≤◌, List, [], ◌∷◌, ◌++◌, map, length, get_or, take, drop, set, Some, None, Ok, Err, Option, Result, sym, refl, ap, ◌∙◌, subst, inl, inr, append_assoc, append-nil, arith, length-append, Bor, MatchResult}
-use Rattle.std.proofs.lemmas.List.{take_at, drop_at, drop-drop, drop_all, drop_more, map_push, take_more_set, length-take-le}
-use Rattle.logline.specs.declared.faults.LineFault.{LineFault}
-use Rattle.logline.specs.declared.faults.LineFault.TheVariants.{Room, Form}
+use Rattle.std.proofs.Common.{◌≡◌, ℕ, ◌+◌, ◌-◌, ◌<◌, ◌≤◌, List, [], ◌∷◌, ◌++◌, map, length, get_or, take, drop, Some, None, Ok, Option, sym, refl, ap, ◌∙◌, subst, inl, append_assoc, append-nil, arith, length-append, Bor}
+use Rattle.std.proofs.lemmas.List.{take_at, drop_at, drop-drop, drop_all, drop_more, map_push}
+use Rattle.arrayvec.specs.ArrayVec.{ArrayVec}
 use Rattle.logline.specs.declared.forms.Word.{Word}
 use Rattle.logline.specs.declared.forms.Name.{Name}
 use Rattle.logline.specs.declared.fields.Field.{Field}
 use Rattle.logline.specs.Forms.{head, names, required, label}
 use Rattle.logline.specs.Pieces.{spaced, cut}
 use Rattle.logline.specs.Events.{Content, Filled, field_text, field_texts, saying, text, Says}
-use Rattle.logline.specs.Refusals.{Departs, NoForm}
-use Rattle.logline.specs.Fields.{content_of, value_bytes, Part, Parts, FieldsOf, Found}
+use Rattle.logline.specs.Refusals.{Departs}
+use Rattle.logline.specs.Fields.{content_of, value_bytes, Part, Parts, FieldsOf}
 use Rattle.logline.specs.Steps.{rest_bytes, rest_pieces, ReadFrom, rest_place, Ends, TakenFrom}
 use Rattle.logline.proofs.Cutting.{cut_some, cut_apart}
-use Rattle.logline.proofs.Contents.{few_names}
 
 -- so far i fields are taken: what is found of the rest is found of the whole
 pub record Walk (line : List ℕ) (ps : List (List ℕ)) (ns : List Name) (m here : ℕ) (i : ℕ) (taken : List Field) (rest : Option (Bor (List ℕ))) : Type 0 where
@@ -22,19 +20,9 @@ pub record Walk (line : List ℕ) (ps : List (List ℕ)) (ns : List Name) (m her
   pub fills : (vs : List Content) → Filled vs (drop i ns) (m - i) → rest_pieces rest ≡ field_texts vs (drop i ns) → Filled (map content_of taken ++ vs) ns m × (ps ≡ field_texts (map content_of taken ++ vs) ns)
   pub parts : (fs : List Field) → Parts line fs (drop i ns) (rest_place line rest) → Parts line (taken ++ fs) ns here
 
--- the same of the fields of a word, put into a list from what was left of a line at the start
-abbrev pub Taking : List ℕ → Option (Bor (List ℕ)) → Word → List Field → ℕ → Option (Bor (List ℕ)) → Type 0
-Taking line start w list i rest = Walk line (rest_pieces start) (names w) (length (required w)) (rest_place line start) i (take i list) rest
-
-pub walk_none : (line : List ℕ) (rest : Option (Bor (List ℕ))) (ns : List Name) (m : ℕ) → Ends line rest → Walk line (rest_pieces rest) ns m (rest_place line rest) 0 [] rest
-walk_none line rest ns m ends =
-    let z : m - 0 ≡ m = omega arith in
-    record {
-      ends = ends;
-      departs = λ q d. subst (λ k. Departs (rest_pieces rest) ns k (rest_place line rest) (length line) q) z d;
-      fills = λ vs f e. (subst (Filled vs ns) z f, e);
-      parts = λ fs h. h;
-    }
+-- the same of the fields of a word, taken from what was left of a line at the start
+abbrev pub Taking : List ℕ → Option (Bor (List ℕ)) → Word → ℕ → List Field → Option (Bor (List ℕ)) → Type 0
+Taking line start w i taken rest = Walk line (rest_pieces start) (names w) (length (required w)) (rest_place line start) i taken rest
 
 -- what is left after a piece is the line's end too, and stands behind the piece and its blank
 ends_more : (line bytes piece : List ℕ) (behind : Option (Bor (List ℕ))) → (length bytes ≤ length line) × (drop (length line - length bytes) line ≡ bytes) → bytes ≡ piece ++ rest_bytes behind → Ends line behind × (length line - length bytes + length piece + 1 ≡ rest_place line behind)
@@ -91,32 +79,12 @@ module _ {line : List ℕ} {ps : List (List ℕ)} {ns : List Name} {m here i : �
         (subst (λ l. Departs (some.0 ∷ some.1) l (m - i) place (length line) place) (sym (drop_all i ns end)) refl))
 
   module _ (w : Walk line ps ns m here i taken None) where
-    -- the line ends before a field that has to be there
-    pub walk_missing : i < m → Departs ps ns m here (length line) (length line)
-    walk_missing lt = w.departs (length line) (omega arith, refl)
-
     -- the line ends, and the fields are all there
     pub walk_filled : m ≤ i → Filled (map content_of taken) ns m × (ps ≡ field_texts (map content_of taken) ns)
     walk_filled le = subst (λ l. Filled l ns m × (ps ≡ field_texts l ns)) (append-nil (map content_of taken)) (w.fills [] (omega arith) refl)
 
     pub walk_parts : Parts line taken ns here
     walk_parts = subst (λ l. Parts line l ns here) (append-nil taken) (w.parts [] tt)
-
--- what is left when the line ends decides it
-pub walk_ended : (line : List ℕ) (start : Option (Bor (List ℕ))) (w : Word) (list : List Field) (i : ℕ) (r : Result ℕ LineFault) → Taking line start w list i None → i ≤ length list → MatchResult r (λ n. (n ≡ i) × (length (required w) ≤ i)) (λ f. (f ≡ Form (length line)) × (i < length (required w))) → TakenFrom line start w list r
-walk_ended line start w list i (Ok n) h le e =
-    let f = walk_filled h e.1 in
-    subst (λ k. TakenFrom line start w list (Ok k)) (sym e.0) (le, f.0, f.1, walk_parts h)
-walk_ended line start w list i (Err (Room k)) h le e = let z : ◌≡◌ {A = ℕ} 0 1 = cc in absurd (omega arith)
-walk_ended line start w list i (Err (Form q)) h le e =
-    let is : q ≡ length line = cc in
-    subst (Departs (rest_pieces start) (names w) (length (required w)) (rest_place line start) (length line)) (sym is) (walk_missing h e.1)
-
--- one field more is put into the list
-pub taking_more : (line : List ℕ) (start : Option (Bor (List ℕ))) (w : Word) (list : List Field) (i : ℕ) (bytes : Bor (List ℕ)) → Taking line start w list i (Some bytes) → i < length list → (n : Name) (here : ℕ) (piece : List ℕ) (behind : Option (Bor (List ℕ))) (f : Field) → drop i (names w) ≡ n ∷ drop (i + 1) (names w) → here ≡ length line - length bytes.now → cut bytes.now ≡ piece ∷ rest_pieces behind → bytes.now ≡ piece ++ rest_bytes behind → ReadFrom n here piece f → Taking line start w (set list i f) (i + 1) behind
-taking_more line start w list i bytes h lt n here piece behind f next place cuts whole r =
-    subst (λ l. Walk line (rest_pieces start) (names w) (length (required w)) (rest_place line start) (i + 1) l behind) (sym (take_more_set list i f lt))
-    (walk_more bytes h n piece behind f next cuts whole (subst (λ k. ReadFrom n k piece f) place r))
 
 -- the next name, where names are left
 pub next_name : (items ns : List Name) (i j : ℕ) (d : Name) → items ≡ ns → i ≡ j → j < length items → drop i ns ≡ get_or items j d ∷ drop (i + 1) ns
@@ -136,40 +104,5 @@ module _ (line first : List ℕ) (rest : Option (Bor (List ℕ))) (w : Word) (wh
       let is : line ≡ text (saying w vs) = sym (cut_apart line).0 ∙ ap spaced (pieces ∙ (λ i. given i ∷ e i)) in
       record { whole = is; sayable = record { filled = f; short = omega (arith, ap length is) } }
 
-  pub line_found : (list : List Field) (n : ℕ) → TakenFrom line rest w list (Ok n) → FieldsOf line w n list
-  line_found list n t = record { room = t.0; says = line_says (map content_of (take n list)) t.1 t.2; parts = subst (Parts line (take n list) (names w)) line_place t.3 }
-
-  pub line_refused : (list : List Field) (f : LineFault) → TakenFrom line rest w list (Err f) → Found line list (Err f)
-  line_refused list (Room k) t = t
-  line_refused list (Form q) t =
-      inr (short, subst (λ l. NoForm l (length line) q) (sym pieces) (inr (w, given, subst (λ k. Departs (rest_pieces rest) (names w) (length (required w)) k (length line) q) (line_place ∙ ap (λ l. length l + 1) (sym given)) t)))
-
-parts_few : (line : List ℕ) (fs : List Field) (ns : List Name) (here : ℕ) → Parts line fs ns here → length fs ≤ length ns
-parts_few line [] ns here h = omega arith
-parts_few line (f ∷ fs) [] here h = absurd h
-parts_few line (f ∷ fs) (n ∷ ns) here h = let k = parts_few line fs ns (here + length (label n ++ value_bytes f) + 1) h.1 in omega arith
-
--- no more fields are found than a form has
-pub few_found : (line : List ℕ) (w : Word) (n : ℕ) (list : List Field) → FieldsOf line w n list → n ≤ 4
-few_found line w n list h = omega (arith, length-take-le n list h.room, parts_few line (take n list) (names w) (length (head w) + 1) h.parts, few_names w)
-
--- the fields that were found are copied to the front of a list
-module _ (line : List ℕ) (w : Word) (n : ℕ) (found part was : List Field) (h : FieldsOf line w n found) (front : part ≡ take (n - 0) found) where
-  same_part : part ≡ take n found
-  same_part = let all : n - 0 ≡ n = omega arith in front ∙ ap (λ k. take k found) all
-
-  part_long : length part ≡ n
-  part_long = ap length same_part ∙ length-take-le n found h.room
-
-  pub copy_found : FieldsOf line w n (part ++ drop (n - 0) was)
-  copy_found =
-      let now : List Field = part ++ drop (n - 0) was in
-      let is : take n now ≡ take n found = take_at part (drop (n - 0) was) n part_long ∙ same_part in
-      record {
-        room = omega (arith, length-append part (drop (n - 0) was), part_long);
-        says = subst (λ l. Says line (saying w (map content_of l))) (sym is) h.says;
-        parts = subst (λ l. Parts line l (names w) (length (head w) + 1)) (sym is) h.parts;
-      }
-
-  pub copy_kept : drop n (part ++ drop (n - 0) was) ≡ drop n was
-  copy_kept = let all : n - 0 ≡ n = omega arith in drop_at part (drop (n - 0) was) n part_long ∙ ap (λ k. drop k was) all
+  pub line_found : (v : ArrayVec Field) → TakenFrom line rest w (Ok v) → FieldsOf line w v.items
+  line_found v t = record { says = line_says (map content_of v.items) t.0 t.1; parts = subst (Parts line v.items (names w)) line_place t.2 }

@@ -1,5 +1,6 @@
 -- The fields of a line, each a part of it.
-use Rattle.std.specs.Prelude.{◌≡◌, ℕ, ◌+◌, ◌≤◌, List, [], ◌∷◌, ◌++◌, map, length, take, drop, Ok, Err, Result}
+use Rattle.std.specs.Prelude.{◌≡◌, ℕ, ◌+◌, List, [], ◌∷◌, ◌++◌, map, length, take, drop, Ok, Err, Result}
+use Rattle.arrayvec.specs.ArrayVec.{ArrayVec}
 use Rattle.logline.specs.declared.forms.Word.{Word}
 use Rattle.logline.specs.declared.forms.Name.{Name}
 use Rattle.logline.specs.declared.fields.Field.{Field}
@@ -40,14 +41,13 @@ Parts line [] ns here = Unit {0}
 Parts line (f ∷ fs) [] here = ⊥
 Parts line (f ∷ fs) (n ∷ ns) here = Part line n here f × Parts line fs ns (here + length (label n ++ value_bytes f) + 1)
 
--- the first fields of a list are those of the line, and the line says what they hold
-pub record FieldsOf (line : List ℕ) (w : Word) (count : ℕ) (list : List Field) : Type 0 where
-  pub room : count ≤ length list
-  pub says : Says line (saying w (map content_of (take count list)))
-  pub parts : Parts line (take count list) (names w) (length (head w) + 1)
+-- the fields of a line after its first, with the word that this one gives: the line says what they hold
+pub record FieldsOf (line : List ℕ) (w : Word) (list : List Field) : Type 0 where
+  pub says : Says line (saying w (map content_of list))
+  pub parts : Parts line list (names w) (length (head w) + 1)
 
 -- what looking for the fields of a line answers
-abbrev pub Found : List ℕ → List Field → Result (Word × ℕ) LineFault → Type 0
-Found line list (Ok r) = FieldsOf line r.0 r.1 list
-Found line list (Err (Room needed)) = ⊥
-Found line list (Err (Form place)) = NotOfForm line place
+abbrev pub Found : List ℕ → Result (Word × ArrayVec Field) LineFault → Type 0
+Found line (Ok r) = FieldsOf line r.0 r.1.items
+Found line (Err (Room needed)) = ⊥
+Found line (Err (Form place)) = NotOfForm line place

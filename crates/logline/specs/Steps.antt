@@ -1,19 +1,19 @@
 -- Words for the steps inside: contracts of the crate's own functions cite them, those of its public ones do not.
-use Rattle.std.specs.Prelude.{◌≡◌, ℕ, ◌+◌, ◌-◌, ◌*◌, ◌^◌, ◌<◌, ◌≤◌, List, [], ◌∷◌, ◌++◌, map, length, take, drop, Some, None, Ok, Err, decimal, Option, Result, ◌≢◌}
+use Rattle.std.specs.Prelude.{◌≡◌, ℕ, ◌+◌, ◌-◌, ◌*◌, ◌^◌, ◌<◌, ◌≤◌, List, [], ◌∷◌, ◌++◌, map, length, drop, Some, None, Ok, Err, decimal, Option, Result, ◌≢◌}
 use Rattle.std.specs.Borrow.{Bor}
 use Rattle.std.specs.Int.{IsInRange}
+use Rattle.arrayvec.specs.ArrayVec.{ArrayVec}
 use Rattle.logline.specs.declared.forms.Word.{Word}
 use Rattle.logline.specs.declared.forms.Name.{Name}
 use Rattle.logline.specs.declared.forms.Shape.{Shape}
-use Rattle.logline.specs.declared.forms.Shape.TheVariants.{Number}
 use Rattle.logline.specs.declared.fields.Field.{Field}
 use Rattle.logline.specs.declared.faults.LineFault.{LineFault}
 use Rattle.logline.specs.declared.faults.LineFault.TheVariants.{Room, Form}
 use Rattle.logline.specs.declared.events.Value.{Value}
 use Rattle.logline.specs.declared.events.Value.TheVariants as value
-use Rattle.logline.specs.Forms.{required, names, label, shape_of}
+use Rattle.logline.specs.Forms.{required, names, label}
 use Rattle.logline.specs.Pieces.{cut}
-use Rattle.logline.specs.Events.{Content, number, serial, letter, content_text, content_shape, Allowed, Filled, field_texts, Said, text, Sayable, left_out}
+use Rattle.logline.specs.Events.{Content, number, serial, letter, content_text, content_shape, Allowed, Filled, field_texts, Said, text, Sayable}
 use Rattle.logline.specs.Refusals.{Departs}
 use Rattle.logline.specs.Fields.{content_of, value_bytes, place_of, Parts}
 
@@ -54,10 +54,10 @@ Ends line None = Unit {0}
 Ends line (Some r) = (length r.now ≤ length line) × (drop (length line - length r.now) line ≡ r.now)
 
 -- fields taken from what was left of a line, or the place where it departs from the form
-abbrev pub TakenFrom : List ℕ → Option (Bor (List ℕ)) → Word → List Field → Result ℕ LineFault → Type 0
-TakenFrom line rest w list (Ok n) = (n ≤ length list) × Filled (map content_of (take n list)) (names w) (length (required w)) × (rest_pieces rest ≡ field_texts (map content_of (take n list)) (names w)) × Parts line (take n list) (names w) (rest_place line rest)
-TakenFrom line rest w list (Err (Room needed)) = ⊥
-TakenFrom line rest w list (Err (Form place)) = Departs (rest_pieces rest) (names w) (length (required w)) (rest_place line rest) (length line) place
+abbrev pub TakenFrom : List ℕ → Option (Bor (List ℕ)) → Word → Result (ArrayVec Field) LineFault → Type 0
+TakenFrom line rest w (Ok v) = Filled (map content_of v.items) (names w) (length (required w)) × (rest_pieces rest ≡ field_texts (map content_of v.items) (names w)) × Parts line v.items (names w) (rest_place line rest)
+TakenFrom line rest w (Err (Room needed)) = ⊥
+TakenFrom line rest w (Err (Form place)) = Departs (rest_pieces rest) (names w) (length (required w)) (rest_place line rest) (length line) place
 
 -- what one field of an event holds
 abbrev pub value_content : Value → Content
@@ -65,26 +65,22 @@ value_content (value.Number n) = number n
 value_content (value.Serial s) = serial s.now
 value_content (value.Letter k) = letter k
 
--- where a content of this shape stands at a place, it is this one
-abbrev pub Holds : Shape → List Content → ℕ → Content → Type 0
-Holds shape vs i v = (u : Content) (us : List Content) → drop i vs ≡ u ∷ us → content_shape u ≡ shape → u ≡ v
+-- no content of this shape stands at a place
+abbrev pub NoneAt : Shape → List Content → ℕ → Type 0
+NoneAt shape vs i = (u : Content) (us : List Content) → drop i vs ≡ u ∷ us → content_shape u ≢ shape
 
--- where a number may be the last content, at a place, this is it, or it is left out
-abbrev pub HoldsLast : List Content → ℕ → Option ℕ → Type 0
-HoldsLast vs i r = (n : Name) → shape_of n ≡ Number → Filled (drop i vs) (n ∷ []) 0 → drop i vs ≡ left_out r
+-- a content stands at a place
+abbrev pub StandsAt : List Content → ℕ → Content → Type 0
+StandsAt vs i v = drop i vs ≡ v ∷ drop (i + 1) vs
 
--- bytes that may be put, put at a place after those that stand before it; or they may not, or find no room
-abbrev pub PutWhen : (may : Type 0) (out : List ℕ) (at : ℕ) (bytes after : List ℕ) → Result ℕ LineFault → Type 0
-PutWhen may out at bytes after (Ok n) = may × (n ≡ at + length bytes) × (n ≤ length out) × (take n after ≡ take at out ++ bytes)
-PutWhen may out at bytes after (Err (Room needed)) = ⊥
-PutWhen may out at bytes after (Err (Form place)) = (place ≡ 96) × (may → length out < at + length bytes)
+-- bytes that may be put behind those of a line, which has room for 96; or they may not, or find no room
+abbrev pub PutWhen : (may : Type 0) (was bytes after : List ℕ) → Result (Unit {0}) LineFault → Type 0
+PutWhen may was bytes after (Ok done) = may × (after ≡ was ++ bytes) × (length after ≤ 96)
+PutWhen may was bytes after (Err (Room needed)) = ⊥
+PutWhen may was bytes after (Err (Form place)) = (place ≡ 96) × (may → 96 < length was + length bytes)
 
--- bytes that may always be put
-abbrev pub PutAt : (out : List ℕ) (at : ℕ) (bytes after : List ℕ) → Result ℕ LineFault → Type 0
-PutAt = PutWhen (Unit {0})
-
--- the text of what is said put at the start of 96 places, or it cannot be said in one line
-abbrev pub PutSaid : Said → (after : List ℕ) → Result ℕ LineFault → Type 0
-PutSaid s after (Ok n) = Sayable s × (n ≡ length (text s)) × (take n after ≡ text s)
-PutSaid s after (Err (Room needed)) = ⊥
-PutSaid s after (Err (Form place)) = (place ≡ 96) × (Sayable s → ⊥)
+-- the text of what is said, or it cannot be said in one line
+abbrev pub PutSaid : Said → Result (ArrayVec ℕ) LineFault → Type 0
+PutSaid s (Ok line) = Sayable s × (line.items ≡ text s)
+PutSaid s (Err (Room needed)) = ⊥
+PutSaid s (Err (Form place)) = (place ≡ 96) × (Sayable s → ⊥)

@@ -1,13 +1,14 @@
 // What a line says.
-ghost use Rattle.std.specs.Prelude.{◌≡◌, ℕ, ◌+◌, ◌≤◌, List, [], ◌∷◌, map, length, drop, MatchOption};
+ghost use Rattle.std.specs.Prelude.{IsSomeAnd, MatchOption, ◌≡◌, ◌+◌, ◌≤◌, ◌++◌, map, length, option_to_list};
 ghost use Rattle.logline.specs.Forms.{names, required};
 ghost use Rattle.logline.specs.Events as Content;
 ghost use Rattle.logline.specs.Events.{Filled, said, saying, left_out};
 ghost use Rattle.logline.specs.Fields.{content_of};
-ghost use Rattle.logline.specs.Steps.{Holds, HoldsLast, value_content};
+ghost use Rattle.logline.specs.Steps.{value_content, NoneAt, StandsAt};
 
-use crate::fields::Field;
+use crate::fields::{Field, MOST};
 use crate::forms::{Kind, Shape, Word};
+use arrayvec::ArrayVec;
 
 // An event: what one line asks for. `span` is remembered as left out where it was.
 #[derive(Clone, Copy)]
@@ -51,6 +52,13 @@ pub(crate) enum Value<'a> {
     Letter(Kind),
 }
 
+// What fills the places of a list that are not taken.
+impl Default for Value<'_> {
+    fn default() -> Self {
+        Value::Number(0)
+    }
+}
+
 impl<'a> Event<'a> {
     // The word that its line begins with.
     pub(crate) fn word(&self) -> Word
@@ -66,9 +74,9 @@ impl<'a> Event<'a> {
         }
     }
 
-    // What its field at this place among the others holds, unless the fields end before.
-    pub(crate) fn value(&self, i: usize) -> Option<Value<'a>>
-        ensures held { MatchOption result (length (said self.now).contents ≤ i) (λ v. drop i (said self.now).contents ≡ value_content v ∷ drop (i + 1) (said self.now).contents) }
+    // What its fields after the first hold.
+    pub(crate) fn values(&self) -> ArrayVec<Value<'a>, MOST>
+        ensures held { map value_content result.items ≡ (said self.now).contents }
     {
         match *self {
             Event::Open {
@@ -76,126 +84,106 @@ impl<'a> Event<'a> {
                 window,
                 fine,
                 seed,
-            } => match i {
-                0 => Some(Value::Letter(kind)),
-                1 => Some(Value::Number(window)),
-                2 => Some(Value::Number(fine)),
-                3 => Some(Value::Number(seed)),
-                _ => None,
-            },
-            Event::Enrol { cab } => match i {
-                0 => Some(Value::Serial(cab)),
-                _ => None,
-            },
-            Event::Play { cab, t } => match i {
-                0 => Some(Value::Serial(cab)),
-                1 => Some(Value::Number(t)),
-                _ => None,
-            },
-            Event::Ask { cab, t, span } => match i {
-                0 => Some(Value::Serial(cab)),
-                1 => Some(Value::Number(t)),
-                2 => Some(Value::Number(span?)),
-                _ => None,
-            },
-            Event::Range { from, to, t, span } => match i {
-                0 => Some(Value::Number(from)),
-                1 => Some(Value::Number(to)),
-                2 => Some(Value::Number(t)),
-                3 => Some(Value::Number(span?)),
-                _ => None,
-            },
-            Event::List { least, t, span } => match i {
-                0 => Some(Value::Number(least)),
-                1 => Some(Value::Number(t)),
-                2 => Some(Value::Number(span?)),
-                _ => None,
-            },
+            } => listed(
+                &[
+                    Value::Letter(kind),
+                    Value::Number(window),
+                    Value::Number(fine),
+                    Value::Number(seed),
+                ],
+                None,
+            ),
+            Event::Enrol { cab } => listed(&[Value::Serial(cab)], None),
+            Event::Play { cab, t } => listed(&[Value::Serial(cab), Value::Number(t)], None),
+            Event::Ask { cab, t, span } => listed(&[Value::Serial(cab), Value::Number(t)], span),
+            Event::Range { from, to, t, span } => listed(
+                &[Value::Number(from), Value::Number(to), Value::Number(t)],
+                span,
+            ),
+            Event::List { least, t, span } => {
+                listed(&[Value::Number(least), Value::Number(t)], span)
+            }
         }
     }
 }
 
-// The field at this place in a list, unless the list ends before.
-fn field_at<'a>(list: &[Field<'a>], i: usize) -> Option<Field<'a>>
-    ensures held { MatchOption result (drop i (map content_of list.now) ≡ []) (λ f. drop i (map content_of list.now) ≡ content_of f ∷ drop (i + 1) (map content_of list.now)) }
+// The values of the fields that have to be there, and that of a last one, unless it is left out.
+fn listed<'a>(required: &[Value<'a>], last: Option<u32>) -> ArrayVec<Value<'a>, MOST>
+    requires { length required.now + length (option_to_list last) ≤ 4 }
+    ensures held { map value_content result.items ≡ map value_content required.now ++ left_out last }
 {
-    if i < list.len() { Some(list[i]) } else { None }
-}
-
-// The number in the field at this place.
-fn number_at(list: &[Field], i: usize) -> u32
-    ensures held { Holds Shape.Number (map content_of list.now) i (Content.number result) }
-{
-    match field_at(list, i) {
-        Some(field) => field.number(),
-        None => 0,
+    let mut values = ArrayVec::new();
+    values.try_extend_from_slice(required).unwrap();
+    if let Some(number) = last {
+        values.push(Value::Number(number));
     }
+    values
 }
 
-// The serial in the field at this place.
-fn serial_at<'a>(list: &[Field<'a>], i: usize) -> &'a [u8]
-    ensures held { Holds Shape.Serial (map content_of list.now) i (Content.serial result.now) }
+// The number in the field at this place, if there is such a field and it holds one.
+fn number_at(list: &[Field], i: usize) -> Option<u32>
+    ensures held { MatchOption result (NoneAt Shape.Number (map content_of list.now) i) (λ n. StandsAt (map content_of list.now) i (Content.number n)) }
 {
-    match field_at(list, i) {
-        Some(field) => field.serial(),
-        None => b"",
-    }
-}
-
-// The kind in the field at this place.
-fn kind_at(list: &[Field], i: usize) -> Kind
-    ensures held { Holds Shape.Letter (map content_of list.now) i (Content.letter result) }
-{
-    match field_at(list, i) {
-        Some(field) => field.kind(),
-        None => Kind::Ring,
-    }
-}
-
-// The number in a last field at this place, unless it was left out.
-fn optional_at(list: &[Field], i: usize) -> Option<u32>
-    ensures held { HoldsLast (map content_of list.now) i result }
-{
-    let Some(field) = field_at(list, i) else {
+    let Field::Number { value, .. } = *list.get(i)? else {
         return None;
     };
-    Some(field.number())
+    Some(value)
 }
 
-// The event that a word and its fields make.
-pub(crate) fn event_of<'a>(word: Word, list: &[Field<'a>]) -> Event<'a>
-    requires { Filled (map content_of list.now) (names word) (length (required word)) }
-    ensures held { said result ≡ saying word (map content_of list.now) }
+// The serial in the field at this place, if there is such a field and it holds one.
+fn serial_at<'a>(list: &[Field<'a>], i: usize) -> Option<&'a [u8]>
+    ensures held { MatchOption result (NoneAt Shape.Serial (map content_of list.now) i) (λ s. StandsAt (map content_of list.now) i (Content.serial s.now)) }
+{
+    let Field::Serial { text, .. } = *list.get(i)? else {
+        return None;
+    };
+    Some(text)
+}
+
+// The kind in the field at this place, if there is such a field and it holds one.
+fn kind_at(list: &[Field], i: usize) -> Option<Kind>
+    ensures held { MatchOption result (NoneAt Shape.Letter (map content_of list.now) i) (λ k. StandsAt (map content_of list.now) i (Content.letter k)) }
+{
+    let Field::Letter { kind, .. } = *list.get(i)? else {
+        return None;
+    };
+    Some(kind)
+}
+
+// The event that a word and its fields make, if the fields are those of its form. A span may be left out.
+// Field by field, not by one pattern a form: tried, and the check does not see there why a pattern of several fields failed.
+pub(crate) fn event_of<'a>(word: Word, list: &[Field<'a>]) -> Option<Event<'a>>
+    ensures held { Filled (map content_of list.now) (names word) (length (required word)) → IsSomeAnd result (λ e. said e ≡ saying word (map content_of list.now)) }
 {
     match word {
-        Word::Open => Event::Open {
-            kind: kind_at(list, 0),
-            window: number_at(list, 1),
-            fine: number_at(list, 2),
-            seed: number_at(list, 3),
-        },
-        Word::Enrol => Event::Enrol {
-            cab: serial_at(list, 0),
-        },
-        Word::Play => Event::Play {
-            cab: serial_at(list, 0),
-            t: number_at(list, 1),
-        },
-        Word::Ask => Event::Ask {
-            cab: serial_at(list, 0),
-            t: number_at(list, 1),
-            span: optional_at(list, 2),
-        },
-        Word::Range => Event::Range {
-            from: number_at(list, 0),
-            to: number_at(list, 1),
-            t: number_at(list, 2),
-            span: optional_at(list, 3),
-        },
-        Word::List => Event::List {
-            least: number_at(list, 0),
-            t: number_at(list, 1),
-            span: optional_at(list, 2),
-        },
+        Word::Open => Some(Event::Open {
+            kind: kind_at(list, 0)?,
+            window: number_at(list, 1)?,
+            fine: number_at(list, 2)?,
+            seed: number_at(list, 3)?,
+        }),
+        Word::Enrol => Some(Event::Enrol {
+            cab: serial_at(list, 0)?,
+        }),
+        Word::Play => Some(Event::Play {
+            cab: serial_at(list, 0)?,
+            t: number_at(list, 1)?,
+        }),
+        Word::Ask => Some(Event::Ask {
+            cab: serial_at(list, 0)?,
+            t: number_at(list, 1)?,
+            span: number_at(list, 2),
+        }),
+        Word::Range => Some(Event::Range {
+            from: number_at(list, 0)?,
+            to: number_at(list, 1)?,
+            t: number_at(list, 2)?,
+            span: number_at(list, 3),
+        }),
+        Word::List => Some(Event::List {
+            least: number_at(list, 0)?,
+            t: number_at(list, 1)?,
+            span: number_at(list, 2),
+        }),
     }
 }

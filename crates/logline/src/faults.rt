@@ -2,6 +2,7 @@
 ghost use Rattle.std.specs.Prelude.{◌≡◌};
 ghost use Rattle.logline.specs.Faults.{number_of};
 
+// A line that cannot be read, or an event that cannot be written.
 #[derive(Clone, Copy, PartialEq, Debug)]
 pub enum LineFault {
     // too few places are lent for a line
@@ -11,7 +12,7 @@ pub enum LineFault {
 }
 
 impl LineFault {
-    // The number that a reply gives for this fault.
+    // The number that a reply gives for this fault. A method, since a fault is no number: its name says which number this is.
     pub fn number(&self) -> u32
         ensures told { result ≡ number_of self.now }
     {

@@ -1,9 +1,8 @@
 // The fields of a line, each a part of it.
-ghost use Rattle.std.specs.Prelude.{◌≡◌, ℕ, ◌-◌, ◌<◌, ◌≤◌, List, [], ◌∷◌, length, drop, IfOk, Some, None, MatchOption, MatchResult, OnErr, ◌≢◌};
-ghost use Rattle.logline.specs.Forms.{letter_of, required};
+ghost use Rattle.std.specs.Prelude.{◌≡◌, ◌-◌, ◌≤◌, [], ◌∷◌, length, MatchOption, ◌≢◌};
+ghost use Rattle.logline.specs.Forms.{letter_of};
 ghost use Rattle.logline.specs.Pieces.{NoBlank};
 ghost use Rattle.logline.specs.Events as Content;
-ghost use Rattle.logline.specs.Events.{content_shape};
 ghost use Rattle.logline.specs.Refusals.{IsField};
 ghost use Rattle.logline.specs.Fields.{content_of, Found};
 ghost use Rattle.logline.specs.Steps.{ReadFrom, Ends, TakenFrom};
@@ -11,7 +10,8 @@ ghost use Rattle.logline.specs.Steps.{ReadFrom, Ends, TakenFrom};
 use crate::faults::LineFault;
 use crate::forms::{Kind, Name, Shape, Word};
 use crate::numbers::number;
-use crate::pieces::{after, first_piece};
+use crate::pieces::first_piece;
+use arrayvec::ArrayVec;
 
 // A line has at most this many bytes.
 pub const LONGEST: usize = 96;
@@ -20,6 +20,7 @@ pub const LONGEST: usize = 96;
 pub const MOST: usize = 4;
 
 // A field of a line. It borrows the bytes of its value, and `place` is that of its first byte, the first of its name.
+// Both stand in each variant, so that one pattern has all that a field tells.
 #[derive(Clone, Copy)]
 pub enum Field<'a> {
     Number {
@@ -42,10 +43,10 @@ pub enum Field<'a> {
 fn kind_of(text: &[u8]) -> Option<Kind>
     ensures found { MatchOption result ((k : Kind) → text.now ≢ letter_of k ∷ []) (λ k. text.now ≡ letter_of k ∷ []) }
 {
-    if text.len() != 1 {
+    let [letter] = text else {
         return None;
-    }
-    Kind::of_letter(char::from(text[0]))
+    };
+    Kind::try_from(char::from(*letter)).ok()
 }
 
 impl<'a> Field<'a> {
@@ -54,7 +55,7 @@ impl<'a> Field<'a> {
         requires { NoBlank piece.now }
         ensures found { MatchOption result (IsField name piece.now → ⊥) (λ f. ReadFrom name place piece.now f) }
     {
-        let text = after(piece, name.label())?;
+        let text = piece.strip_prefix(name.label())?;
         match name.shape() {
             Shape::Number => {
                 let value = number(text)?;
@@ -67,34 +68,18 @@ impl<'a> Field<'a> {
             }
         }
     }
+}
 
-    // The number that a number's field holds.
-    pub(crate) fn number(self) -> u32
-        ensures held { content_shape (content_of self.entry) ≡ Shape.Number → content_of self.entry ≡ Content.number result }
-    {
-        match self {
-            Field::Number { value, .. } => value,
-            _ => 0,
-        }
-    }
+// An empty field, such as fills the places of a list that are not taken.
+impl Default for Field<'_> {
+    ghost use Rattle.logline.specs.Fields.{place_of};
 
-    // The serial that a serial's field holds.
-    pub(crate) fn serial(self) -> &'a [u8]
-        ensures held { content_shape (content_of self.entry) ≡ Shape.Serial → content_of self.entry ≡ Content.serial result.now }
-    {
-        match self {
-            Field::Serial { text, .. } => text,
-            _ => b"",
-        }
-    }
+    ghost is_default = { λ f. (place_of f ≡ 0) × (content_of f ≡ Content.serial []) };
 
-    // The kind that a letter's field holds.
-    pub(crate) fn kind(self) -> Kind
-        ensures held { content_shape (content_of self.entry) ≡ Shape.Letter → content_of self.entry ≡ Content.letter result }
-    {
-        match self {
-            Field::Letter { kind, .. } => kind,
-            _ => Kind::Ring,
+    fn default() -> Self {
+        Field::Serial {
+            place: 0,
+            text: b"",
         }
     }
 }
@@ -107,55 +92,43 @@ fn place_of(line: &[u8], rest: &[u8]) -> usize
     line.len() - rest.len()
 }
 
-// The line ends after some fields: they are enough, or the next one is missing at the line's end.
-fn ended(line: &[u8], word: Word, count: usize) -> Result<usize, LineFault>
-    ensures told { MatchResult result (λ n. (n ≡ count) × (length (required word) ≤ count)) (λ f. (f ≡ LineFault.Form (length line.now)) × (count < length (required word))) }
-{
-    if count < word.required() {
-        return Err(LineFault::Form { place: line.len() });
-    }
-    Ok(count)
-}
-
-// Takes the fields of a word from what is left of a line, as long as there are names, and puts them into a list.
+// Takes the fields of a word from what is left of a line, as long as there are names.
 fn take_fields<'a>(
     line: &'a [u8],
     start: Option<&'a [u8]>,
     word: Word,
-    list: &mut [Field<'a>; MOST],
-) -> Result<usize, LineFault>
+) -> Result<ArrayVec<Field<'a>, MOST>, LineFault>
     requires { Ends line.now start }
-    ensures taken { TakenFrom line.now start.entry word list.new result }
+    ensures taken { TakenFrom line.now start.entry word result }
 {
     let mut rest = start;
-    let mut count = 0;
+    let mut list = ArrayVec::new();
     for name in word.names() {
         let Some(bytes) = rest else {
-            return ended(line, word, count);
+            break;
         };
         let place = place_of(line, bytes);
         let (piece, behind) = first_piece(bytes);
         let Some(field) = Field::read(*name, place, piece) else {
             return Err(LineFault::Form { place });
         };
-        list[count] = field;
-        count += 1;
+        list.push(field);
         rest = behind;
     }
-    let Some(bytes) = rest else {
-        return ended(line, word, count);
-    };
-    Err(LineFault::Form {
-        place: place_of(line, bytes),
-    })
+    if let Some(bytes) = rest {
+        return Err(LineFault::Form {
+            place: place_of(line, bytes),
+        });
+    }
+    if list.len() < word.required() {
+        return Err(LineFault::Form { place: line.len() });
+    }
+    Ok(list)
 }
 
-// Finds the fields of a line after its first, and puts them into a list as it goes.
-pub(crate) fn find_fields<'a>(
-    line: &'a [u8],
-    list: &mut [Field<'a>; MOST],
-) -> Result<(Word, usize), LineFault>
-    ensures found { Found line.now list.new result }
+// The word that the first field of a line gives, and the fields after it.
+pub fn fields_of<'a>(line: &'a [u8]) -> Result<(Word, ArrayVec<Field<'a>, MOST>), LineFault>
+    ensures found { Found line.now result }
 {
     if line.len() > LONGEST {
         return Err(LineFault::Form { place: LONGEST });
@@ -164,25 +137,5 @@ pub(crate) fn find_fields<'a>(
     let Some(word) = Word::read(first) else {
         return Err(LineFault::Form { place: 0 });
     };
-    let count = take_fields(line, rest, word, list)?;
-    Ok((word, count))
-}
-
-// The fields of a line after its first, put into a list, with the word that the first one gives and their number.
-// A refusal leaves the list as it was.
-pub fn fields_of<'a>(
-    line: &'a [u8],
-    list: &mut [Field<'a>; MOST],
-) -> Result<(Word, usize), LineFault>
-    ensures found { Found line.now list.new result }
-    ensures kept { IfOk result (λ p. drop p.1 list.new ≡ drop p.1 list.old) }
-    ensures unchanged { OnErr result (list.new ≡ list.old) }
-{
-    let mut found = [Field::Serial {
-        place: 0,
-        text: line,
-    }; MOST];
-    let (word, count) = find_fields(line, &mut found)?;
-    list[0..count].copy_from_slice(&found[0..count]);
-    Ok((word, count))
+    Ok((word, take_fields(line, rest, word)?))
 }

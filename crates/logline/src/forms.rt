@@ -1,8 +1,6 @@
 // The forms of a line as data: words, the fields that follow each, and what a field holds.
-ghost use Rattle.std.specs.Prelude.{◌≡◌, ℕ, length, Decides, MatchOption, ◌≢◌};
+ghost use Rattle.std.specs.Prelude.{◌≡◌, length, MatchOption, MatchResult, ◌≢◌};
 ghost use Rattle.logline.specs.Forms.{head, names, required, label, shape_of, letter_of};
-
-use crate::pieces::same_bytes;
 
 // What a line asks for: the word after `do=`.
 #[derive(Clone, Copy, PartialEq, Debug)]
@@ -15,6 +13,7 @@ pub enum Word {
     List,
 }
 
+// Every word.
 const WORDS: [Word; 6] = [
     Word::Open,
     Word::Enrol,
@@ -98,23 +97,11 @@ impl Word {
         }
     }
 
-    // Whether a line's first field gives this word.
-    fn is_given_by(self, field: &[u8]) -> bool
-        ensures decided { Decides result (field.now ≡ head self) }
-    {
-        same_bytes(field, self.head())
-    }
-
     // The word that a line's first field gives.
     pub(crate) fn read(field: &[u8]) -> Option<Word>
         ensures found { MatchOption result ((w : Word) → field.now ≢ head w) (λ w. field.now ≡ head w) }
     {
-        for word in WORDS {
-            if word.is_given_by(field) {
-                return Some(word);
-            }
-        }
-        None
+        WORDS.iter().find(|word| word.head() == field).copied()
     }
 }
 
@@ -149,27 +136,37 @@ impl Name {
     }
 }
 
-impl Kind {
-    // The letter that stands for this kind.
-    pub fn letter(self) -> char
-        ensures told { result ≡ letter_of self }
-    {
-        match self {
+// A letter that stands for no kind.
+#[derive(Clone, Copy, PartialEq, Debug)]
+pub struct UnknownLetter(pub char);
+
+// The letter that stands for a kind.
+impl From<Kind> for char {
+    ghost from_gives = { λ k letter. letter ≡ letter_of k };
+
+    fn from(kind: Kind) -> char {
+        match kind {
             Kind::Ring => 'r',
             Kind::Histogram => 'h',
             Kind::Wave => 'w',
         }
     }
+}
 
-    // The kind that a letter stands for.
-    pub fn of_letter(letter: char) -> Option<Kind>
-        ensures found { MatchOption result ((k : Kind) → letter ≢ letter_of k) (λ k. letter ≡ letter_of k) }
-    {
+// The kind that a letter stands for.
+impl TryFrom<char> for Kind {
+    ghost use Rattle.logline.specs.declared.forms.Kind.{Kind};
+
+    type Error = UnknownLetter;
+
+    ghost try_from_gives = { λ letter r. MatchResult r (λ k. letter ≡ letter_of k) (λ e. (e.0 ≡ letter) × ((k : Kind) → letter ≢ letter_of k)) };
+
+    fn try_from(letter: char) -> Result<Kind, UnknownLetter> {
         match letter {
-            'r' => Some(Kind::Ring),
-            'h' => Some(Kind::Histogram),
-            'w' => Some(Kind::Wave),
-            _ => None,
+            'r' => Ok(Kind::Ring),
+            'h' => Ok(Kind::Histogram),
+            'w' => Ok(Kind::Wave),
+            _ => Err(UnknownLetter(letter)),
         }
     }
 }

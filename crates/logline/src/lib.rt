@@ -16,10 +16,9 @@ mod texts;
 pub use events::Event;
 use events::event_of;
 pub use faults::LineFault;
-use fields::find_fields;
 pub use fields::{Field, LONGEST, MOST, fields_of};
-pub use forms::{Kind, Name, Shape, Word};
-use texts::put_event;
+pub use forms::{Kind, Name, Shape, UnknownLetter, Word};
+use texts::line_of;
 
 // The event that a line says, or the place where the line departs from every form.
 pub fn read<'a>(line: &'a [u8]) -> Result<Event<'a>, LineFault>
@@ -27,12 +26,8 @@ pub fn read<'a>(line: &'a [u8]) -> Result<Event<'a>, LineFault>
     ensures decided { Decided line.now }
     ensures writes_back { WritesBack line.now result }
 {
-    let mut list = [Field::Serial {
-        place: 0,
-        text: line,
-    }; MOST];
-    let (word, count) = find_fields(line, &mut list)?;
-    Ok(event_of(word, &list[0..count]))
+    let (word, list) = fields_of(line)?;
+    Ok(event_of(word, &list).unwrap())
 }
 
 // Writes the line of an event to the front of the places lent, and gives its length.
@@ -44,8 +39,7 @@ pub fn write(event: &Event, out: &mut [u8]) -> Result<usize, LineFault>
     if out.len() < LONGEST {
         return Err(LineFault::Room { needed: LONGEST });
     }
-    let mut line = [0; LONGEST];
-    let n = put_event(&mut line, event)?;
-    out[0..n].copy_from_slice(&line[0..n]);
-    Ok(n)
+    let line = line_of(event)?;
+    out[..line.len()].copy_from_slice(&line);
+    Ok(line.len())
 }

@@ -1,21 +1,12 @@
-use Rattle.std.proofs.Common.{sym, subst, arith, rules}
-use Rattle.std.proofs.str.Numerals.{begun}
+use Rattle.std.proofs.Common.{sym, subst, rules}
 use Rattle.logline.specs.Steps.{NumberOf}
-use Rattle.logline.proofs.Decimal.{no_number_empty, no_number_zero, digit_more, no_number_on, number_read}
+use Rattle.logline.proofs.Decimal.{no_number_on, no_number_empty, no_number_zero, number_read}
 use Rattle.logline.proofs.numbers.number.Goals as goal
-
-pub loop-byte-init : goal.loop-byte-init
-loop-byte-init c = (begun 10 c.args.text.now, omega arith)
 
 pub returns-in_err-number : goal.returns-in_err-number
 returns-in_err-number c = record {
   found = subst (NumberOf c.args.text.now) (sym c.from_residual.ensures) (no_number_on c.args.text.now _ _ c.loop-byte.invariant.0 c.loop-byte-test.true c.in_err-number.ensures.told);
 }
-
-pub loop-byte-preserved : goal.loop-byte-preserved
-loop-byte-preserved c =
-    let next = c.in_ok-number.ensures.told in
-    (digit_more c.args.text.now _ _ c.loop-byte.invariant.0 c.loop-byte-test.true _ next.0 next.1, next.2)
 
 pub returns-then-is_empty : goal.returns-then-is_empty
 returns-then-is_empty c = record { found = no_number_empty c.args.text.now (search rules) }

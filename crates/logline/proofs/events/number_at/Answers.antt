@@ -1,0 +1,20 @@
+use Rattle.std.proofs.Common.{◌≡◌, ◌<◌, length, get_or, map, rules, subst, ap}
+use Rattle.logline.specs.declared.forms.Shape.TheVariants.{Number}
+use Rattle.logline.specs.Fields.{content_of}
+use Rattle.logline.specs.Steps.{StandsAt}
+use Rattle.logline.proofs.Rebuilding.{stands, stands_alone, no_number}
+use Rattle.logline.proofs.events.number_at.Goals as goal
+
+pub returns-in_default : goal.returns-in_default
+returns-in_default c =
+    let field = c.in_ok-value.field-0.now in
+    let lt : c.args.i < length c.args.list.now = search rules in
+    let is : field ≡ get_or c.args.list.now c.args.i field = search rules in
+    record { held = stands_alone Number c.args.list.now c.args.i field lt is (no_number field c.in_default.not-Number) }
+
+pub returns : goal.returns
+returns c =
+    let field = c.in_ok-value.field-0.now in
+    let lt : c.args.i < length c.args.list.now = search rules in
+    let is : field ≡ get_or c.args.list.now c.args.i field = search rules in
+    record { held = subst (StandsAt (map content_of c.args.list.now) c.args.i) (ap content_of c.in-Number.is) (stands c.args.list.now c.args.i field lt is) }
