@@ -6,3 +6,4 @@ pub mod Beginning
 pub mod Lawfully
 pub mod AtCalls
 pub mod ListSteps
+pub mod Asked

@@ -1,7 +1,9 @@
 -- A list: found, handed over, or refused.
-use Rattle.std.proofs.Common.{◌≡◌, ℕ, ◌≤◌, ltb, List, [], ◌∷◌, ◌++◌, length, drop, Some, None, Ok, Err, Result, sym, refl, ap, ◌∙◌, subst, arith, pow_mono}
+use Rattle.std.proofs.Common.{◌≡◌, ℕ, ◌≤◌, ltb, List, [], ◌∷◌, ◌++◌, map, length, drop, Some, None, Ok, Err, Result, sym, refl, ap, ◌∙◌, subst, arith}
 use Rattle.std.proofs.lemmas.Bool.{cond-true, cond-false, lt-ltb, le-ltb}
 use Rattle.std.proofs.lemmas.Bool.Decides.{nat_tests}
+use Rattle.std.proofs.lemmas.List.{length-map}
+use Rattle.arrayvec.specs.ArrayVec.{ArrayVec}
 use Rattle.window.specs.Causes.{Admitted, Refused}
 use Rattle.window.specs.Meaning.{Model}
 use Rattle.window.proofs.Refusals.{admitted_then, refused_first}
@@ -9,7 +11,7 @@ use Rattle.sketch.specs.Layout.{shape_of, keys, cell_number}
 use Rattle.sketch.specs.declared.faults.CellFault.{CellFault}
 use Rattle.listing.specs.declared.Listed.{Listed}
 use Rattle.listing.specs.Answers.{ListAnswer}
-use Rattle.daybook.specs.Boards.{State}
+use Rattle.daybook.specs.Boards.{State, listed}
 use Rattle.board.specs.declared.held.Board.{Board as OneBoard}
 use Rattle.board.specs.declared.records.Record.{Record}
 use Rattle.board.specs.declared.faults.Refusal.{Refusal}
@@ -17,7 +19,7 @@ use Rattle.board.specs.declared.faults.Fault.{Fault}
 use Rattle.board.specs.declared.faults.Fault.TheVariants.{Board, Cell}
 use Rattle.board.specs.Causes.{Cause, label, list_causes}
 use Rattle.board.specs.Held.{state_of}
-use Rattle.board.specs.Lists.{room_causes, needed, HandedOver, ListOutcome}
+use Rattle.board.specs.Lists.{room_causes, entry, needed, HandedOver, ListOutcome}
 use Rattle.board.proofs.Registers.{serials_number}
 
 -- where a list is made, board, cells and register are as they should be
@@ -32,43 +34,46 @@ module _ {C : Type 0} (m : Model C) (b : OneBoard) (cells : List C) (records : L
   causes = list_causes b (length cells) (length records) g t v
 
   -- an answer by the number enrolled, by the state of the board
-  by_state : Admitted causes → (found : List Listed) (r : Result ℕ CellFault) → ListAnswer m σ.shape cells b.enrolled t v g found r → ListAnswer m σ.shape cells (length σ.register) t v g found r
-  by_state a found r h =
+  by_state : Admitted causes → (r : Result (ArrayVec Listed) CellFault) → ListAnswer m σ.shape cells b.enrolled t v g r → ListAnswer m σ.shape cells (length σ.register) t v g r
+  by_state a r h =
       let sized = list_sized b (length cells) (length records) g t v a in
       let many = serials_number b.enrolled records (omega (arith, b.room, sized.1)) in
-      subst (λ n. ListAnswer m σ.shape cells n t v g found r) (sym many) h
+      subst (λ n. ListAnswer m σ.shape cells n t v g r) (sym many) h
 
-  -- no more keys are listed than a draft has places
-  pub found_few : Admitted causes → (found : List Listed) (n : ℕ) → ListAnswer m σ.shape cells b.enrolled t v g found (Ok n) → n ≤ 1024
-  found_few a found n h = omega (arith, h.0, b.room, pow_mono b.sketch.bits_range)
+  -- as many as are needed
+  found_many : (found : ArrayVec Listed) (d : C) → found.items ≡ map (entry m σ d t v g) (listed m σ d t v g) → length found.items ≡ needed m σ d t v g
+  found_many found d named = ap length named ∙ length-map (listed m σ d t v g) (entry m σ d t v g)
 
   pub refused_before : (f : Refusal) → Refused causes (label f) → ListOutcome m b cells records places places g t v (Err (Board f))
   refused_before f h = (refl, (λ d. refused_first causes (room_causes (needed m σ d t v g) (length places)) (label f) h), λ d a. let z : ◌≡◌ {A = ℕ} 0 1 = cc in absurd (omega arith))
 
-  pub refused_by_cell : Admitted causes → (found : List Listed) (f : CellFault) → ListAnswer m σ.shape cells b.enrolled t v g found (Err f) → ListOutcome m b cells records places places g t v (Err (Cell f))
-  refused_by_cell a found f h = (refl, a, by_state a found (Err f) h)
+  pub refused_by_cell : Admitted causes → (f : CellFault) → ListAnswer m σ.shape cells b.enrolled t v g (Err f) → ListOutcome m b cells records places places g t v (Err (Cell f))
+  refused_by_cell a f h = (refl, a, by_state a (Err f) h)
 
-  pub refused_room : Admitted causes → (found : List Listed) (n : ℕ) → ListAnswer m σ.shape cells b.enrolled t v g found (Ok n) → (shown : List Listed) (f : Refusal) → HandedOver found n places shown (Err f) → ListOutcome m b cells records places shown g t v (Err (Board f))
-  refused_room a found n h shown f handed =
-      let lists = (by_state a found (Ok n) h).1 in (
+  pub refused_room : Admitted causes → (found : ArrayVec Listed) → ListAnswer m σ.shape cells b.enrolled t v g (Ok found) → (shown : List Listed) (f : Refusal) → HandedOver found.items places shown (Err f) → ListOutcome m b cells records places shown g t v (Err (Board f))
+  refused_room a found h shown f handed =
+      let lists = (by_state a (Ok found) h).1 in (
         handed.1,
         (λ d.
-            let short = lt-ltb (length places) (needed m σ d t v g) (omega (arith, (lists d).many, handed.0)) in
-            let tells_needed : (15, needed m σ d t v g ∷ []) ≡ label f = ap (λ k. (15, k ∷ [])) (sym (lists d).many) ∙ ap label (sym handed.2) in
+            let many = found_many found d (lists d).named in
+            let short = lt-ltb (length places) (needed m σ d t v g) (omega (arith, many, handed.0)) in
+            let tells_needed : (15, needed m σ d t v g ∷ []) ≡ label f = ap (λ k. (15, k ∷ [])) (sym many) ∙ ap label (sym handed.2) in
             admitted_then causes (room_causes (needed m σ d t v g) (length places)) a ∙ cond-true (ltb (length places) (needed m σ d t v g)) (Some (15, needed m σ d t v g ∷ [])) None short ∙ ap Some tells_needed),
         λ d _. (lists d).willing,
       )
 
-  pub written : Admitted causes → (found : List Listed) (n : ℕ) → ListAnswer m σ.shape cells b.enrolled t v g found (Ok n) → (shown : List Listed) (u : Unit {0}) → HandedOver found n places shown (Ok u) → ListOutcome m b cells records places shown g t v (Ok n)
-  written a found n h shown u handed =
-      let lists = (by_state a found (Ok n) h).1 in (
+  pub written : Admitted causes → (found : ArrayVec Listed) → ListAnswer m σ.shape cells b.enrolled t v g (Ok found) → (shown : List Listed) (n : ℕ) → HandedOver found.items places shown (Ok n) → ListOutcome m b cells records places shown g t v (Ok n)
+  written a found h shown n handed =
+      let lists = (by_state a (Ok found) h).1 in (
         a,
-        λ d. record {
-          answer = (lists d).many;
-          written = handed.1 ∙ ap (λ l. l ++ drop n places) (lists d).named;
-          room = cond-false (ltb (length places) (needed m σ d t v g)) (Some (15, needed m σ d t v g ∷ [])) None (le-ltb (length places) (needed m σ d t v g) (omega (arith, (lists d).many, handed.0)));
-          willing = (lists d).willing;
-        },
+        λ d.
+            let many = found_many found d (lists d).named in
+            record {
+              answer = handed.0 ∙ many;
+              written = handed.2 ∙ ap (λ l. found.items ++ drop l places) (sym handed.0) ∙ ap (λ l. l ++ drop n places) (lists d).named;
+              room = cond-false (ltb (length places) (needed m σ d t v g)) (Some (15, needed m σ d t v g ∷ [])) None (le-ltb (length places) (needed m σ d t v g) (omega (arith, many, handed.1)));
+              willing = (lists d).willing;
+            },
       )
 
 -- a refused list, whatever its fault is called

@@ -23,6 +23,11 @@ abbrev pub Tested : List Cause → Result (Unit {0}) Refusal → Type 0
 Tested causes (Ok u) = Admitted causes
 Tested causes (Err f) = Refused causes (label f)
 
+-- tests of causes: where none applies P holds of what is answered, else the first that does refuses
+abbrev pub Unless : {A : Type 0} → List Cause → (A → Type 0) → Result A Refusal → Type 0
+Unless causes P (Ok a) = Admitted causes × P a
+Unless causes P (Err f) = Refused causes (label f)
+
 -- of every call but open, with so many cells and records lent
 abbrev pub ready_causes : Board → ℕ → ℕ → List Cause
 ready_causes b cells records =

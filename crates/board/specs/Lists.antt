@@ -1,5 +1,5 @@
 -- What a list promises.
-use Rattle.std.specs.Prelude.{◌≡◌, ℕ, ◌<◌, ◌≤◌, List, [], ◌∷◌, ◌++◌, map, length, take, drop, Ok, Err, Result, nat_lt}
+use Rattle.std.specs.Prelude.{◌≡◌, ℕ, ◌<◌, ◌≤◌, List, [], ◌∷◌, ◌++◌, map, length, drop, Ok, Err, Result, nat_lt}
 use Rattle.window.specs.Causes.{Admitted, Refused}
 use Rattle.window.specs.Meaning.{Model}
 use Rattle.listing.specs.declared.Listed.{Listed}
@@ -18,10 +18,10 @@ use Rattle.board.specs.Held.{state_of}
 abbrev pub room_causes : (needed places : ℕ) → List Cause
 room_causes needed places = ((15, needed ∷ []), nat_lt places needed) ∷ []
 
--- the first n drafted entries stand in the places, and the places after them are as they were; or there are too few places, and all are as they were
-abbrev pub HandedOver : List Listed → ℕ → (places shown : List Listed) → Result (Unit {0}) Refusal → Type 0
-HandedOver found n places shown (Ok u) = (n ≤ length places) × (shown ≡ take n found ++ drop n places)
-HandedOver found n places shown (Err f) = (length places < n) × (shown ≡ places) × (f ≡ NoRoom n)
+-- the entries that were found stand in the first places, and the places after them are as they were; or there are too few places, and all are as they were
+abbrev pub HandedOver : (found places shown : List Listed) → Result ℕ Refusal → Type 0
+HandedOver found places shown (Ok n) = (n ≡ length found) × (length found ≤ length places) × (shown ≡ found ++ drop (length found) places)
+HandedOver found places shown (Err f) = (length places < length found) × (shown ≡ places) × (f ≡ NoRoom (length found))
 
 module _ {C : Type 0} (m : Model C) (σ : State C) (d : C) (t v g : ℕ) where
   -- what a list has for key x: the key, with its low and high
@@ -51,4 +51,4 @@ ListOutcome {C} m b cells records places shown g t v (Err (Board f)) =
     (shown ≡ places) × ((d : C) → Refused (list_causes b (length cells) (length records) g t v ++ room_causes (needed m (state_of b cells records) d t v g) (length places)) (label f))
     × ((d : C) → Admitted (list_causes b (length cells) (length records) g t v) → AllWilling m (state_of b cells records) d t v g)
 ListOutcome m b cells records places shown g t v (Err (Cell f)) =
-    (shown ≡ places) × Admitted (list_causes b (length cells) (length records) g t v) × ListAnswer m (state_of b cells records).shape cells (length (state_of b cells records).register) t v g shown (Err f)
+    (shown ≡ places) × Admitted (list_causes b (length cells) (length records) g t v) × ListAnswer m (state_of b cells records).shape cells (length (state_of b cells records).register) t v g (Err f)

@@ -1,5 +1,5 @@
 -- What each call answers, and what it leaves.
-use Rattle.std.specs.Prelude.{◌≡◌, ℕ, ◌+◌, ◌<◌, List, length, Ok, Err, Result, slice_set}
+use Rattle.std.specs.Prelude.{◌≡◌, ℕ, ◌+◌, List, length, Ok, Err, Result, slice_set}
 use Rattle.window.specs.Causes.{Admitted, Refused}
 use Rattle.sketch.specs.declared.faults.CellFault.{CellFault}
 use Rattle.window.specs.Meaning.{Model}
@@ -7,14 +7,13 @@ use Rattle.sketch.specs.Layout.{shape_of}
 use Rattle.sketch.specs.Telling.{NamesFirst}
 use Rattle.sketch.specs.Pieces.{over_pieces}
 use Rattle.sketch.specs.Answers.{RangeAnswer, refusing_cells}
-use Rattle.daybook.specs.Book.{Serial, key_in}
+use Rattle.daybook.specs.Book.{key_in}
 use Rattle.daybook.specs.Boards.{State, low_of, high_of}
 use Rattle.daybook.specs.Runs.{Plays, Enrols}
 use Rattle.board.specs.declared.held.Board.{Board as OneBoard}
 use Rattle.board.specs.declared.records.Record.{Record}
 use Rattle.board.specs.Serials.{serials_of}
 use Rattle.board.specs.Held.{state_of}
-use Rattle.board.specs.declared.faults.Refusal.{Refusal}
 use Rattle.board.specs.declared.faults.Fault.{Fault}
 use Rattle.board.specs.declared.faults.Fault.TheVariants.{Board, Cell}
 use Rattle.board.specs.Causes.{Cause, label, enrol_causes, play_causes, range_causes, ask_causes}
@@ -24,11 +23,6 @@ abbrev pub Outcome : {A : Type 0} → List Cause → Type 0 → (Result A CellFa
 Outcome causes unchanged P (Ok a) = Admitted causes × P (Ok a)
 Outcome causes unchanged P (Err (Board f)) = Refused causes (label f) × unchanged
 Outcome causes unchanged P (Err (Cell f)) = Admitted causes × P (Err f)
-
--- the key of a serial, where none of the causes applies
-abbrev pub KeyUnless : List Cause → List Serial → List ℕ → Result ℕ Refusal → Type 0
-KeyUnless causes enrolled bytes (Ok key) = Admitted causes × (key ≡ key_in enrolled bytes) × (key < length enrolled)
-KeyUnless causes enrolled bytes (Err f) = Refused causes (label f)
 
 -- a play was accepted: the answer is the number of plays, the step is a play, and the board is the same but for its clock and number of plays
 pub record Played {C : Type 0} (m : Model C) (before after : OneBoard) (cells told : List C) (records : List Record) (bytes : List ℕ) (t n : ℕ) : Type 0 where
@@ -42,11 +36,6 @@ pub record Played {C : Type 0} (m : Model C) (before after : OneBoard) (cells to
 abbrev pub PlayAnswer : {C : Type 0} → Model C → (before after : OneBoard) → (cells told : List C) → List Record → List ℕ → ℕ → Result ℕ CellFault → Type 0
 PlayAnswer m before after cells told records bytes t (Ok n) = Played m before after cells told records bytes t n
 PlayAnswer m before after cells told records bytes t (Err f) = (after ≡ before) × (told ≡ cells) × NamesFirst m (shape_of before.sketch) (key_in (serials_of before.enrolled records) bytes) t 0 cells f
-
--- the record of a serial, where none of the causes applies
-abbrev pub RecordUnless : List Cause → List ℕ → Result Record Refusal → Type 0
-RecordUnless causes bytes (Ok rec) = Admitted causes × (rec ≡ record { serial = bytes })
-RecordUnless causes bytes (Err f) = Refused causes (label f)
 
 -- a serial was enrolled: the answer is its key, the step is an enrolment, its record stands next in the register, and the board is the same but for the number enrolled
 pub record EnrolledAs {C : Type 0} (before after : OneBoard) (cells : List C) (records left : List Record) (bytes : List ℕ) (key : ℕ) : Type 0 where

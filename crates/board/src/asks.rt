@@ -1,6 +1,6 @@
 // Questions: of a key range, and of one cabinet. They change nothing.
-ghost use Rattle.std.specs.Prelude.{◌≡◌, ◌<◌, ◌≤◌, length, is_ok};
-ghost use Rattle.sketch.specs.Layout.{shape_of, keys, cell_number};
+ghost use Rattle.std.specs.Prelude.{◌≡◌, length, is_ok};
+ghost use Rattle.sketch.specs.Layout.{shape_of, cell_number};
 ghost use Rattle.sketch.specs.Answers.{RangeAnswer};
 ghost use Rattle.daybook.specs.Book as Book;
 ghost use Rattle.daybook.specs.Book.{key_in};
@@ -13,7 +13,6 @@ ghost use Rattle.board.specs.Outcomes.{Outcome, RangeOutcome, AskOutcome};
 use crate::faults::Fault;
 use crate::held::Board;
 use crate::records::Record;
-use sketch::faults::CellFault;
 use sketch::question::Question;
 use window::Counter;
 
@@ -41,39 +40,7 @@ impl Board {
         }
     }
 
-    // The low and high of keys from first to last, where they are a range.
-    fn estimate<'a, C: Counter>(
-        &'a self,
-        cells: &'a [C],
-        first: u32,
-        last: u32,
-        t: u32,
-        v: u32,
-    ) -> Result<(u64, u64), CellFault>
-        requires sized { length cells.now ≡ cell_number (shape_of self.now.sketch) }
-        requires order { first ≤ last }
-        requires within { last < keys (shape_of self.now.sketch) }
-        ensures answered { RangeAnswer C.Counter.model (shape_of self.now.sketch) cells.now self.now.enrolled t v first last result }
-    {
-        self.question(cells, t, v).range(first, last)
-    }
-
-    // The low and high of one key.
-    fn estimate_key<'a, C: Counter>(
-        &'a self,
-        cells: &'a [C],
-        key: u32,
-        t: u32,
-        v: u32,
-    ) -> Result<(u64, u64), CellFault>
-        requires sized { length cells.now ≡ cell_number (shape_of self.now.sketch) }
-        requires within { key < keys (shape_of self.now.sketch) }
-        ensures answered { RangeAnswer C.Counter.model (shape_of self.now.sketch) cells.now self.now.enrolled t v key key result }
-    {
-        self.estimate(cells, key, key, t, v)
-    }
-
-    // The low and high of the keys from first to last at t over v.
+    // The low and high of the keys from first to last at t over v: plain arguments, as a call is made with them.
     pub fn range<'a, C: Counter>(
         &'a self,
         cells: &'a [C],
@@ -87,8 +54,8 @@ impl Board {
         ensures estimated { RangeOutcome C.Counter.model self.now cells.now register.now first last t v result }
         ensures lawful { Lawful C.Counter.model (state_of self.now cells.now register.now) (Book.range first last t v) (is_ok result) (state_of self.now cells.now register.now) }
     {
-        self.may_range(cells.len(), register.len(), first, last, t, v)?;
-        Ok(self.estimate(cells, first, last, t, v)?)
+        self.may_range(cells.len(), register, first, last, t, v)?;
+        Ok(self.question(cells, t, v).range(first, last)?)
     }
 
     // The low and high of one enrolled cabinet at t over v: those of its key.
@@ -105,6 +72,6 @@ impl Board {
         ensures lawful { Lawful C.Counter.model (state_of self.now cells.now register.now) (Book.ask serial.now t v) (is_ok result) (state_of self.now cells.now register.now) }
     {
         let key = self.may_ask(cells.len(), register, serial, t, v)?;
-        Ok(self.estimate_key(cells, key, t, v)?)
+        Ok(self.question(cells, t, v).range(key, key)?)
     }
 }

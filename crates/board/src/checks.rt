@@ -1,13 +1,12 @@
 // Tests of the causes of refusal, each over what it is about.
-ghost use Rattle.std.specs.Prelude.{◌≡◌, ◌^◌, ◌≤◌, ◌++◌, length};
+ghost use Rattle.std.specs.Prelude.{◌≡◌, length, take};
 ghost use Rattle.sketch.specs.Layout.{shape_of, keys};
-ghost use Rattle.board.specs.Serials.{serials_of};
-ghost use Rattle.board.specs.Causes.{Tested, ready_causes, time_causes, keys_causes, stamp_causes, known_causes, range_causes, ask_causes, play_causes};
-ghost use Rattle.board.specs.Outcomes.{KeyUnless};
+ghost use Rattle.board.specs.Serials.{serials, serials_of, IsKey};
+ghost use Rattle.board.specs.Causes.{Tested, Unless, ready_causes, time_causes, keys_causes, stamp_causes, known_causes, range_causes, ask_causes, play_causes};
 
 use crate::faults::Refusal;
 use crate::held::Board;
-use crate::records::{Record, key_of, record_of};
+use crate::records::{Enrolled, Record, record_of};
 use window::admission::MOST_TAKEN;
 
 impl Board {
@@ -18,20 +17,26 @@ impl Board {
         1 << self.sketch.bits
     }
 
-    // Whether it is opened, and lent as many cells and records as it wants.
-    pub(crate) fn ready(&self, cells: usize, records: usize) -> Result<(), Refusal>
-        ensures tested { Tested (ready_causes self.now cells records) result }
+    // The enrolled records, where it is opened, and lent as many cells and records as it wants.
+    pub(crate) fn ready<'a>(
+        &self,
+        cells: usize,
+        register: &'a [Record],
+    ) -> Result<Enrolled<'a>, Refusal>
+        ensures ready { Unless (ready_causes self.now cells (length register.now)) (λ enrolled. enrolled.records.now ≡ take self.now.enrolled register.now) result }
     {
         if !self.opened {
             return Err(Refusal::NotOpened);
         }
-        if cells != self.sketch.cell_number() || records < self.keys() as usize {
+        if cells != self.sketch.cell_number() || register.len() < self.keys() as usize {
             return Err(Refusal::WrongSize);
         }
-        Ok(())
+        Ok(Enrolled {
+            records: &register[..self.enrolled as usize],
+        })
     }
 
-    // Whether t and v may be asked.
+    // Whether t and v may be asked. Not the counters' `permit`, as a board's refusal tells the clock.
     pub(crate) fn permits(&self, t: u32, v: u32) -> Result<(), Refusal>
         ensures tested { Tested (time_causes self.now t v) result }
     {
@@ -54,7 +59,7 @@ impl Board {
         Ok(())
     }
 
-    // Whether stamp t may be the next one.
+    // Whether stamp t may be the next one. Not the counters' `in_turn`, for the same reason.
     pub(crate) fn in_turn(&self, t: u32) -> Result<(), Refusal>
         ensures tested { Tested (stamp_causes self.now t) result }
     {
@@ -67,63 +72,21 @@ impl Board {
         Ok(())
     }
 
-    // The key of a serial that should be enrolled.
-    pub(crate) fn known(&self, register: &[Record], serial: &[u8]) -> Result<u32, Refusal>
-        requires sized { keys (shape_of self.now.sketch) ≤ length register.now }
-        ensures known { KeyUnless (known_causes (serials_of self.now.enrolled register.now) serial.now) (serials_of self.now.enrolled register.now) serial.now result }
-    {
-        let Some(sought) = record_of(serial) else {
-            return Err(Refusal::NotASerial);
-        };
-        let key = key_of(register, self.enrolled, &sought);
-        if key >= self.enrolled {
-            return Err(Refusal::NotEnrolled);
-        }
-        Ok(key)
-    }
-
-    // Whether a key range may be asked about at t over v.
-    fn may_ask_keys(&self, first: u32, last: u32, t: u32, v: u32) -> Result<(), Refusal>
-        ensures tested { Tested (time_causes self.now t v ++ keys_causes self.now first last) result }
-    {
-        self.permits(t, v)?;
-        self.spans(first, last)
-    }
-
     // Whether a question about a key range is answered.
     pub(crate) fn may_range(
         &self,
         cells: usize,
-        records: usize,
+        register: &[Record],
         first: u32,
         last: u32,
         t: u32,
         v: u32,
     ) -> Result<(), Refusal>
-        ensures tested { Tested (range_causes self.now cells records first last t v) result }
+        ensures tested { Tested (range_causes self.now cells (length register.now) first last t v) result }
     {
-        self.ready(cells, records)?;
-        self.may_ask_keys(first, last, t, v)
-    }
-
-    // The key of an enrolled serial that may be asked about at t over v.
-    fn known_at(&self, register: &[Record], serial: &[u8], t: u32, v: u32) -> Result<u32, Refusal>
-        requires sized { keys (shape_of self.now.sketch) ≤ length register.now }
-        ensures known { KeyUnless (known_causes (serials_of self.now.enrolled register.now) serial.now ++ time_causes self.now t v) (serials_of self.now.enrolled register.now) serial.now result }
-    {
-        let key = self.known(register, serial)?;
+        self.ready(cells, register)?;
         self.permits(t, v)?;
-        Ok(key)
-    }
-
-    // The key of an enrolled serial that may be played at t.
-    fn known_in_turn(&self, register: &[Record], serial: &[u8], t: u32) -> Result<u32, Refusal>
-        requires sized { keys (shape_of self.now.sketch) ≤ length register.now }
-        ensures known { KeyUnless (known_causes (serials_of self.now.enrolled register.now) serial.now ++ stamp_causes self.now t) (serials_of self.now.enrolled register.now) serial.now result }
-    {
-        let key = self.known(register, serial)?;
-        self.in_turn(t)?;
-        Ok(key)
+        self.spans(first, last)
     }
 
     // Whether a question about a cabinet is answered: its key.
@@ -135,10 +98,11 @@ impl Board {
         t: u32,
         v: u32,
     ) -> Result<u32, Refusal>
-        ensures known { KeyUnless (ask_causes self.now cells register.now serial.now t v) (serials_of self.now.enrolled register.now) serial.now result }
+        ensures known { Unless (ask_causes self.now cells register.now serial.now t v) (IsKey (serials_of self.now.enrolled register.now) serial.now) result }
     {
-        self.ready(cells, register.len())?;
-        self.known_at(register, serial, t, v)
+        let key = self.ready(cells, register)?.known(serial)?;
+        self.permits(t, v)?;
+        Ok(key)
     }
 
     // Whether a play is taken, but for the cells: the cabinet's key.
@@ -149,9 +113,20 @@ impl Board {
         serial: &[u8],
         t: u32,
     ) -> Result<u32, Refusal>
-        ensures known { KeyUnless (play_causes self.now cells register.now serial.now t) (serials_of self.now.enrolled register.now) serial.now result }
+        ensures known { Unless (play_causes self.now cells register.now serial.now t) (IsKey (serials_of self.now.enrolled register.now) serial.now) result }
     {
-        self.ready(cells, register.len())?;
-        self.known_in_turn(register, serial, t)
+        let key = self.ready(cells, register)?.known(serial)?;
+        self.in_turn(t)?;
+        Ok(key)
+    }
+}
+
+impl Enrolled<'_> {
+    // The key of a serial that should be enrolled.
+    fn known(&self, serial: &[u8]) -> Result<u32, Refusal>
+        ensures known { Unless (known_causes (serials self.now.records.now) serial.now) (IsKey (serials self.now.records.now) serial.now) result }
+    {
+        let sought = record_of(serial).ok_or(Refusal::NotASerial)?;
+        self.key_of(&sought).ok_or(Refusal::NotEnrolled)
     }
 }

@@ -3,27 +3,23 @@ ghost use Rattle.std.specs.Prelude.{◌≡◌, ◌+◌, ◌<◌, ◌≤◌, leng
 ghost use Rattle.sketch.specs.Layout.{shape_of, keys};
 ghost use Rattle.daybook.specs.Book.{enrol};
 ghost use Rattle.daybook.specs.Runs.{Lawful};
-ghost use Rattle.board.specs.Serials.{serials_of};
+ghost use Rattle.board.specs.Serials.{serials, IsRecordOf};
 ghost use Rattle.board.specs.Held.{state_of};
-ghost use Rattle.board.specs.Causes.{fresh_causes, enrol_causes};
-ghost use Rattle.board.specs.Outcomes.{RecordUnless, EnrolOutcome};
+ghost use Rattle.board.specs.Causes.{Unless, fresh_causes, enrol_causes};
+ghost use Rattle.board.specs.Outcomes.{EnrolOutcome};
 
 use crate::faults::{Fault, Refusal};
 use crate::held::Board;
-use crate::records::{Record, key_of, record_of};
+use crate::records::{Enrolled, Record, record_of};
 use window::Counter;
 
 impl Board {
     // The record of a serial that is not enrolled yet, where a key is left.
-    fn fresh(&self, register: &[Record], serial: &[u8]) -> Result<Record, Refusal>
-        requires sized { keys (shape_of self.now.sketch) ≤ length register.now }
-        ensures fresh { RecordUnless (fresh_causes self.now (serials_of self.now.enrolled register.now) serial.now) serial.now result }
+    fn fresh(&self, enrolled: &Enrolled, serial: &[u8]) -> Result<Record, Refusal>
+        ensures fresh { Unless (fresh_causes self.now (serials enrolled.now.records.now) serial.now) (IsRecordOf serial.now) result }
     {
-        let Some(sought) = record_of(serial) else {
-            return Err(Refusal::NotASerial);
-        };
-        let key = key_of(register, self.enrolled, &sought);
-        if key < self.enrolled {
+        let sought = record_of(serial).ok_or(Refusal::NotASerial)?;
+        if let Some(key) = enrolled.key_of(&sought) {
             return Err(Refusal::AlreadyEnrolled { key });
         }
         if self.enrolled >= self.keys() {
@@ -34,10 +30,10 @@ impl Board {
 
     // Whether a serial is enrolled: its record.
     fn may_enrol(&self, cells: usize, register: &[Record], serial: &[u8]) -> Result<Record, Refusal>
-        ensures fresh { RecordUnless (enrol_causes self.now cells register.now serial.now) serial.now result }
+        ensures fresh { Unless (enrol_causes self.now cells register.now serial.now) (IsRecordOf serial.now) result }
     {
-        self.ready(cells, register.len())?;
-        self.fresh(register, serial)
+        let enrolled = self.ready(cells, register)?;
+        self.fresh(&enrolled, serial)
     }
 
     // Puts a record after the enrolled ones, and gives its key.

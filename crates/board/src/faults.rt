@@ -46,7 +46,7 @@ pub enum Fault {
 }
 
 impl Refusal {
-    // The number by which a refusal is known.
+    // The number by which a refusal is known. A method, since a refusal is no number: its name says which number this is.
     pub fn number(self) -> u8
         ensures numbered { result ≡ refusal_number self }
     {
@@ -54,23 +54,23 @@ impl Refusal {
             Refusal::NotOpened => 1,
             Refusal::OutOfRange => 2,
             Refusal::WrongSize => 3,
-            Refusal::WideWord { place: _ } => 4,
+            Refusal::WideWord { .. } => 4,
             Refusal::NotASerial => 5,
-            Refusal::AlreadyEnrolled { key: _ } => 6,
+            Refusal::AlreadyEnrolled { .. } => 6,
             Refusal::NoKeyLeft => 7,
             Refusal::NotEnrolled => 8,
-            Refusal::BeforeClock { clock: _ } => 9,
+            Refusal::BeforeClock { .. } => 9,
             Refusal::BadSpan => 10,
             Refusal::BadKeys => 11,
             Refusal::NoThreshold => 12,
             Refusal::AllPlaysTaken => 13,
-            Refusal::NoRoom { needed: _ } => 15,
+            Refusal::NoRoom { .. } => 15,
         }
     }
 }
 
 impl Fault {
-    // The number by which a fault is known.
+    // The number by which a fault is known, under the same name as a refusal's.
     pub fn number(self) -> u8
         ensures numbered { result ≡ number self }
     {

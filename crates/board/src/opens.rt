@@ -1,5 +1,5 @@
 // Opening: the one call on a board that is not opened.
-ghost use Rattle.std.specs.Prelude.{◌≡◌, ℕ, ◌-◌, ◌^◌, ◌<◌, ◌≤◌, true, false, ◌++◌, length, replicate, slice_index_or};
+ghost use Rattle.std.specs.Prelude.{◌≡◌, ℕ, ◌-◌, ◌^◌, ◌<◌, ◌≤◌, true, false, ◌++◌, length, replicate, MatchOption, slice_index_or};
 ghost use Rattle.window.specs.Meaning.{Fresh};
 ghost use Rattle.board.specs.Causes.{Tested};
 ghost use Rattle.board.specs.Outcomes.{Outcome};
@@ -14,20 +14,18 @@ use sketch::shape::Sketch;
 use window::Counter;
 
 impl Dimensions {
-    // Whether each number lies in its range.
+    // Whether each number lies in its range. Not the counters' test, as the fineness that is asked for is a wider number.
     fn in_range(self) -> bool
         ensures ranged { result ≡ in_range self }
     {
         self.window >= 1
-            && self.fineness >= 1
-            && self.fineness <= 6
+            && (1..=6).contains(&self.fineness)
             && self.bits <= 10
-            && self.rows >= 1
-            && self.rows <= 4
+            && (1..=4).contains(&self.rows)
             && self.spread <= 8
     }
 
-    // Whether so many words, cells and records are what the shape wants.
+    // Whether so many words, cells and records are what the shape wants. No sketch is there yet that could tell the numbers.
     fn is_sized(self, words: usize, cells: usize, records: usize) -> bool
         requires bits { self.bits ≤ 10 }
         requires rows { self.rows ≤ 4 }
@@ -41,16 +39,11 @@ impl Dimensions {
     }
 }
 
-// The place of the first word that is no column, or the number of words.
-fn first_wide(words: &[u16], width: u32) -> usize
-    ensures first { result ≡ first_wide width words.now }
+// The place of the first word that is no column.
+fn first_wide(words: &[u16], width: u32) -> Option<usize>
+    ensures first { MatchOption result (first_wide width words.now ≡ length words.now) (λ place. (place ≡ first_wide width words.now) × (place < length words.now)) }
 {
-    for (place, word) in words.iter().enumerate() {
-        if u32::from(*word) >= width {
-            return place;
-        }
-    }
-    words.len()
+    words.iter().position(|word| u32::from(*word) >= width)
 }
 
 // Whether a board is opened so: its first cause against it.
@@ -63,8 +56,7 @@ fn may_open(asked: Dimensions, words: &[u16], cells: usize, records: usize) -> R
     if !asked.is_sized(words.len(), cells, records) {
         return Err(Refusal::WrongSize);
     }
-    let place = first_wide(words, 1 << asked.spread);
-    if place < words.len() {
+    if let Some(place) = first_wide(words, 1 << asked.spread) {
         return Err(Refusal::WideWord {
             place: place as u32,
         });
@@ -110,12 +102,10 @@ fn renew<C: Counter>(cells: &mut [C], window: u32, fineness: u8)
 fn empty(register: &mut [Record])
     ensures empty { (k : ℕ) (d : OneRecord) → k < length register.new → (slice_index_or register.new k d).serial ≡ replicate 16 0 }
 {
-    for record in register.iter_mut() {
-        *record = Record { serial: [0; 16] };
-    }
+    register.fill(Record { serial: [0; 16] });
 }
 
-// A board newly opened: nothing is enrolled or played.
+// A board newly opened: nothing is enrolled or played. Field by field, as a struct with an invariant takes no `..`.
 fn begun(sketch: Sketch) -> Board
     ensures opened { result.opened ≡ true }
     ensures sketch { result.sketch ≡ sketch }

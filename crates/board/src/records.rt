@@ -1,10 +1,10 @@
 // Serials, and the records of the register that hold them.
-ghost use Rattle.std.specs.Prelude.{◌≡◌, ◌≤◌, length};
-ghost use Rattle.daybook.specs.Book.{key_in, same_bytes};
-ghost use Rattle.board.specs.Serials.{is_serial_byte, all_serial_bytes, record_of, serials_of};
+ghost use Rattle.std.specs.Prelude.{◌≡◌, ◌^◌, ◌<◌, length, MatchOption};
+ghost use Rattle.daybook.specs.Book.{key_in};
+ghost use Rattle.board.specs.Serials.{is_serial_byte, record_of, serials, IsKey};
 
 // A record of the register: the sixteen bytes of a serial, all of which count.
-#[derive(Clone, Copy)]
+#[derive(Clone, Copy, PartialEq, Eq, Debug)]
 pub struct Record {
     pub serial: [u8; 16],
 }
@@ -13,26 +13,14 @@ pub struct Record {
 fn is_serial_byte(b: u8) -> bool
     ensures one { result ≡ is_serial_byte b }
 {
-    b >= b'0' && b <= b'9' || b >= b'A' && b <= b'Z'
-}
-
-// Whether all bytes may stand in a serial.
-fn all_serial_bytes(bytes: &[u8]) -> bool
-    ensures all { result ≡ all_serial_bytes bytes.now }
-{
-    for b in bytes {
-        if !is_serial_byte(*b) {
-            return false;
-        }
-    }
-    true
+    matches!(b, b'0'..=b'9' | b'A'..=b'Z')
 }
 
 // The record of a serial; none where the bytes are not one.
 pub fn record_of(bytes: &[u8]) -> Option<Record>
     ensures read { result ≡ record_of bytes.now }
 {
-    if bytes.len() != 16 || !all_serial_bytes(bytes) {
+    if bytes.len() != 16 || !bytes.iter().all(|b| is_serial_byte(*b)) {
         return None;
     }
     let mut serial = [0; 16];
@@ -40,22 +28,19 @@ pub fn record_of(bytes: &[u8]) -> Option<Record>
     Some(Record { serial })
 }
 
-// Whether two records hold the same serial: every byte counts.
-fn is_same(a: &Record, b: &Record) -> bool
-    ensures same { result ≡ same_bytes a.now.serial b.now.serial }
-{
-    a.serial == b.serial
+// The records of the enrolled serials, by key.
+#[derive(Clone, Copy)]
+pub struct Enrolled<'a> {
+    pub records: &'a [Record],
+    ghost few: { length records.now < 2 ^ 32 },
 }
 
-// The key of a serial among the first records: how many stand before it.
-pub fn key_of(records: &[Record], enrolled: u32, sought: &Record) -> u32
-    requires within { enrolled ≤ length records.now }
-    ensures key { result ≡ key_in (serials_of enrolled records.now) sought.now.serial }
-{
-    for i in 0..enrolled {
-        if is_same(&records[i as usize], sought) {
-            return i;
-        }
+impl Enrolled<'_> {
+    // The key of a serial: how many stand before it. None where it is not enrolled.
+    pub fn key_of(&self, sought: &Record) -> Option<u32>
+        ensures key { MatchOption result (key_in (serials self.now.records.now) sought.now.serial ≡ length self.now.records.now) (IsKey (serials self.now.records.now) sought.now.serial) }
+    {
+        let key = self.records.iter().position(|record| record == sought)?;
+        Some(key as u32)
     }
-    enrolled
 }

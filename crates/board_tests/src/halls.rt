@@ -1,4 +1,4 @@
-// The calls of a board as numbers and bytes, and a small shape to open it with.
+// The calls of a board as numbers and bytes, each with what is lent to it as a caller lends it, and a small shape to open it with.
 use board::calls::{Answer, Call};
 use board::faults::Fault;
 use board::held::Board;
@@ -65,15 +65,6 @@ pub fn ask<C: Counter>(
     board.serve(cells, register, &mut [], Call::Ask { serial, t, v })
 }
 
-// A call that holds no reference is made by a function of its own: the checker covers it so.
-fn range_call<'a>(first: u32, last: u32, t: u32, v: u32) -> Call<'a> {
-    Call::Range { first, last, t, v }
-}
-
-fn list_call<'a>(least: u32, t: u32, v: u32) -> Call<'a> {
-    Call::List { least, t, v }
-}
-
 pub fn range<C: Counter>(
     board: &mut Board,
     cells: &mut [C],
@@ -83,7 +74,7 @@ pub fn range<C: Counter>(
     v: u32,
 ) -> Result<Answer, Fault> {
     let (first, last) = keys;
-    board.serve(cells, register, &mut [], range_call(first, last, t, v))
+    board.serve(cells, register, &mut [], Call::Range { first, last, t, v })
 }
 
 pub fn list<C: Counter>(
@@ -95,7 +86,7 @@ pub fn list<C: Counter>(
     t: u32,
     v: u32,
 ) -> Result<Answer, Fault> {
-    board.serve(cells, register, places, list_call(least, t, v))
+    board.serve(cells, register, places, Call::List { least, t, v })
 }
 
 // Opens the board, and enrols so many cabinets, whose serials end with A, B and so on.

@@ -20,7 +20,8 @@ mod tests {
     use wave::Wave;
     use window::Counter;
 
-    // An example with twelve cells of each counter in turn, and a register of five records.
+    // An example with twelve cells of each counter in turn, and a register of five records. A macro, as no
+    // function takes an example that is generic over the counter.
     macro_rules! on_each {
         ($rt:ident, $example:ident) => {{
             $example(&$rt, &mut [Ring::make(1, 1); 12], &mut [EMPTY; 5])?;

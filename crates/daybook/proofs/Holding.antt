@@ -12,7 +12,8 @@ use Rattle.sketch.specs.Laws.{Heard, RangeHolds}
 use Rattle.sketch.proofs.NodeLaws.{node_below_high, node_high_near}
 use Rattle.sketch.proofs.RangeLaws.{range_holds}
 use Rattle.daybook.specs.Book.{Book, Play, Serial, key_of, Enrolled, keyed, count_of_cabinet}
-use Rattle.daybook.specs.Boards.{State, low_of, high_of, high_everywhere, listed}
+use Rattle.daybook.specs.Boards.{State, low_of, high_of, listed}
+use Rattle.listing.specs.Listing.{high_everywhere}
 use Rattle.daybook.specs.Promises.{Holds, Guarantee}
 use Rattle.daybook.proofs.Kept.{Kept}
 use Rattle.daybook.proofs.Keys.{cabinet_in_range, range_in_cabinet, cabinet_in_node, has_kept, kept_rising, kept_below}
@@ -40,7 +41,7 @@ module _ {C : Type 0} (m : Model C) (keeps : Keeps m) (σ : State C) (d : C) (bo
   abbrev high : ℕ → ℕ → ℕ
   high k i = node_high m σ.shape σ.cells d t v k i
 
-  busy : (g : ℕ) (s : Serial) → g ≤ count_of_cabinet book s t v → high_everywhere m σ d t v g (key_of book s) ≡ true
+  busy : (g : ℕ) (s : Serial) → g ≤ count_of_cabinet book s t v → high_everywhere m σ.shape σ.cells d t v g (key_of book s) ≡ true
   busy g s h =
       all_from (λ k. leb g (high k (node_of k (key_of book s)))) (σ.shape.bits + 1)
       (λ k l. le-leb g (high k (node_of k (key_of book s)))
@@ -48,7 +49,7 @@ module _ {C : Type 0} (m : Model C) (keeps : Keeps m) (σ : State C) (d : C) (bo
 
   high_at : (g x k : ℕ) → k ≤ σ.shape.bits → Has (listed m σ d t v g) x → g ≤ high k (node_of k x)
   high_at g x k kb h =
-      let passes = all-has (λ x. high_everywhere m σ d t v g x ≡ true) (listed m σ d t v g) x (kept_by_passes (high_everywhere m σ d t v g) (range_with_len 0 enrolled)) h in
+      let passes = all-has (λ x. high_everywhere m σ.shape σ.cells d t v g x ≡ true) (listed m σ d t v g) x (kept_by_passes (high_everywhere m σ.shape σ.cells d t v g) (range_with_len 0 enrolled)) h in
       leb-true g (high k (node_of k x)) (all_at (λ k. leb g (high k (node_of k x))) (σ.shape.bits + 1) k (omega arith) passes)
 
   holds : Holds m σ d book t v
@@ -59,9 +60,9 @@ module _ {C : Type 0} (m : Model C) (keeps : Keeps m) (σ : State C) (d : C) (bo
     cabinet_below_high = λ s known. omega (arith, (ranges (key_of book s) (key_of book s)).below_high, cabinet_in_range book s t v);
     high_near = λ a b. (ranges a b).high_near;
     low_near = λ a b. (ranges a b).low_near;
-    listed_enrolled = λ g. All-weaker (λ x. x < 0 + enrolled) (λ x. x < length book.enrolled) (λ x h. omega (arith, many)) (listed m σ d t v g) (kept_below (high_everywhere m σ d t v g) 0 enrolled);
-    listed_rising = λ g. kept_rising (high_everywhere m σ d t v g) 0 enrolled;
-    busy_listed = λ g s known h. has_kept (high_everywhere m σ d t v g) enrolled (key_of book s) (omega (arith, many)) (busy g s h);
+    listed_enrolled = λ g. All-weaker (λ x. x < 0 + enrolled) (λ x. x < length book.enrolled) (λ x h. omega (arith, many)) (listed m σ d t v g) (kept_below (high_everywhere m σ.shape σ.cells d t v g) 0 enrolled);
+    listed_rising = λ g. kept_rising (high_everywhere m σ.shape σ.cells d t v g) 0 enrolled;
+    busy_listed = λ g s known h. has_kept (high_everywhere m σ.shape σ.cells d t v g) enrolled (key_of book s) (omega (arith, many)) (busy g s h);
     listed_busy = λ g x k h kb.
         let one = mul-le-mul_left σ.shape.fineness (high_at g x k kb h) in
         let two = node_high_near m keeps σ.shape kept.sound σ.cells d enrolled σ.clock (keyed book) kept.faithful heard t v permitted k (node_of k x) kb in

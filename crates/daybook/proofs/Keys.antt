@@ -1,5 +1,5 @@
 -- Serials and their keys.
-use Rattle.std.proofs.Common.{◌≡◌, ℕ, zero, suc, ◌+◌, ◌<◌, ◌≤◌, Bool, true, false, cond, ◌&&◌, eqb, leb, ◌⊎◌, List, [], ◌∷◌, ◌++◌, map, length, get_or, count_by, filter, sym, refl, ap, ◌∙◌, inl, inr, ⊎_elim, one-add, arith}
+use Rattle.std.proofs.Common.{◌≡◌, ℕ, zero, suc, ◌+◌, ◌<◌, ◌≤◌, Bool, true, false, cond, ◌&&◌, eqb, leb, List, [], ◌∷◌, ◌++◌, map, length, get_or, count_by, filter, sym, refl, ap, ◌∙◌, ⊎_elim, one-add, arith}
 use Rattle.std.specs.List.{range_with_len, ContainsAt as Has, AllByRecursion}
 use Rattle.std.proofs.lemmas.Bool.{cases_Bool, and_parts, and_from, eqb-true, eq-eqb, leb-true, le-leb, false≢true, cond_both, cond-true, cond-false}
 use Rattle.std.proofs.lemmas.List.Sums.{sum_by-cons}
@@ -25,10 +25,6 @@ same_bytes_true (x ∷ xs) (y ∷ ys) h =
 pub same_bytes_same : (xs : List ℕ) → same_bytes xs xs ≡ true
 same_bytes_same [] = refl
 same_bytes_same (x ∷ xs) = and_from (eqb x x) (same_bytes xs xs) (eq-eqb x x refl) (same_bytes_same xs)
-
-key_step : (p : Bool) (n l : ℕ) → cond p 0 (1 + n) < suc l → (p ≡ true) ⊎ (n < l)
-key_step true n l h = inl refl
-key_step false n l h = inr (omega arith)
 
 -- at its key stands the serial
 pub at_key : (es : List Serial) (s : Serial) → key_in es s < length es → get_or es (key_in es s) [] ≡ s

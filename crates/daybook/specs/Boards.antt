@@ -1,10 +1,9 @@
 -- What a board says, by its shape, its cells and its register.
-use Rattle.std.specs.Prelude.{ℕ, ◌+◌, Bool, List, length, filter, nat_le}
-use Rattle.std.specs.List.{range_with_len}
-use Rattle.window.specs.Below.{all_below}
+use Rattle.std.specs.Prelude.{ℕ, List, length}
 use Rattle.window.specs.Meaning.{Model}
-use Rattle.sketch.specs.Layout.{Shape, node_of}
-use Rattle.sketch.specs.Nodes.{node_high, range_low, range_high}
+use Rattle.sketch.specs.Layout.{Shape}
+use Rattle.sketch.specs.Nodes.{range_low, range_high}
+use Rattle.listing.specs.Listing.{listed_keys}
 use Rattle.daybook.specs.Book.{Serial}
 
 -- an opened board with its cells and its register of enrolled serials
@@ -26,10 +25,6 @@ module _ {C : Type 0} (m : Model C) (σ : State C) (d : C) (t v : ℕ) where
   abbrev pub high_of : ℕ → ℕ → ℕ
   high_of a b = range_high m σ.shape σ.cells d t v a b
 
-  -- the node of key x has high g or more at every level
-  abbrev pub high_everywhere : ℕ → ℕ → Bool
-  high_everywhere g x = all_below (λ k. nat_le g (node_high m σ.shape σ.cells d t v k (node_of k x))) (σ.shape.bits + 1)
-
   -- the keys that the list for threshold g names, in order: the enrolled ones whose node has high g or more at every level
   abbrev pub listed : ℕ → List ℕ
-  listed g = filter (high_everywhere g) (range_with_len 0 (length σ.register))
+  listed g = listed_keys m σ.shape σ.cells d t v (length σ.register) g

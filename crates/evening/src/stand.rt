@@ -36,36 +36,14 @@ fn serial_of(cabinet: u32) -> [u8; 16] {
     serial
 }
 
-fn range_call<'a>(first: u32, last: u32, t: u32, v: u32) -> Call<'a> {
-    Call::Range { first, last, t, v }
-}
-
-fn list_call<'a>(least: u32, t: u32, v: u32) -> Call<'a> {
-    Call::List { least, t, v }
-}
-
-// So many cells, each new.
-fn new_cells<C: Counter>(heap: Global, many: u32) -> Result<Vec<C>, AllocError> {
-    let mut cells = Vec::new(heap);
-    for _ in 0..many {
-        cells.push(C::make(1, 1))?;
-    }
-    Ok(cells)
-}
-
 impl<C: Counter> Stand<C> {
     // A board that is not opened yet.
     pub fn new(heap: Global) -> Result<Self, AllocError> {
-        let listed = Listed {
-            key: 0,
-            low: 0,
-            high: 0,
-        };
         Ok(Stand {
             board: Board::closed(),
-            cells: new_cells(heap, 48)?,
+            cells: vec![in heap; C::make(1, 1); 48]?,
             register: vec![in heap; Record { serial: [0; 16] }; 32]?,
-            places: vec![in heap; listed; 32]?,
+            places: vec![in heap; Listed::default(); 32]?,
             entries: Vec::new(heap),
             refused: 0,
         })
@@ -150,7 +128,7 @@ impl<C: Counter> Stand<C> {
         t: u32,
         v: u32,
     ) -> anyhow::Result<()> {
-        match self.serve(range_call(first, last, t, v)) {
+        match self.serve(Call::Range { first, last, t, v }) {
             Ok(answer) => self.tell(out, first, last, answer, t, v),
             Err(fault) => refused(out, "range", fault),
         }
@@ -166,7 +144,7 @@ impl<C: Counter> Stand<C> {
         t: u32,
         v: u32,
     ) -> anyhow::Result<()> {
-        let truth = self.truth(first, last, t, v);
+        let truth = true_count(self.entries.as_slice(), first, last, t, v);
         if let Answer::Estimate(low, high) = answer {
             writeln!(
                 out,
@@ -176,21 +154,10 @@ impl<C: Counter> Stand<C> {
         Ok(())
     }
 
-    fn truth(&self, first: u32, last: u32, t: u32, v: u32) -> u32 {
-        let entries = self.entries.as_slice();
-        if entries.len() > 1_000_000 {
-            return 0;
-        }
-        true_count(entries, first, last, t, v)
-    }
-
     // The keys that stand in the first places.
     fn tell_list<W: Write>(&self, out: &mut W, least: u32, count: u32) -> anyhow::Result<()> {
         write!(out, "    listed for {least}: {count} keys")?;
-        for listed in self.places.iter().take(count as usize) {
-            let key = listed.key;
-            let low = listed.low;
-            let high = listed.high;
+        for Listed { key, low, high } in self.places.iter().take(count as usize) {
             write!(out, ", {key} ({low} to {high})")?;
         }
         writeln!(out)?;
@@ -204,7 +171,7 @@ impl<C: Counter> Stand<C> {
         t: u32,
         v: u32,
     ) -> anyhow::Result<()> {
-        match self.serve(list_call(least, t, v)) {
+        match self.serve(Call::List { least, t, v }) {
             Ok(Answer::Count(count)) => self.tell_list(out, least, count),
             Ok(_) => Ok(()),
             Err(fault) => refused(out, "list", fault),

@@ -1,14 +1,14 @@
 -- The draft of a list, as keys rise.
-use Rattle.std.proofs.Common.{◌≡◌, ℕ, ◌+◌, ◌^◌, ◌<◌, ◌≤◌, true, false, leb, List, [], ◌∷◌, ◌++◌, map, length, take, set, Some, None, Ok, Err, filter, sym, refl, ap, ◌∙◌, subst, ⊎_elim, arith, pow_mono}
+use Rattle.std.proofs.Common.{◌≡◌, ℕ, ◌+◌, ◌^◌, ◌<◌, ◌≤◌, true, false, leb, List, [], ◌∷◌, ◌++◌, map, length, Some, None, Ok, filter, sym, refl, ap, ◌∙◌, subst, ⊎_elim, arith}
 use Rattle.std.specs.List.{range_with_len}
-use Rattle.std.proofs.lemmas.List.{length-set, length_push, map_push, take_more_set}
+use Rattle.std.proofs.lemmas.List.{length_push, map_push}
 use Rattle.std.proofs.lemmas.Bool.{cases_lt, le-leb, lt-leb}
+use Rattle.arrayvec.specs.ArrayVec.{ArrayVec}
 use Rattle.window.specs.Meaning.{Model}
 use Rattle.window.proofs.Bounded.{all_from}
-use Rattle.sketch.specs.declared.faults.CellFault.{CellFault}
 use Rattle.sketch.specs.Layout.{Shape, node_of, first_key}
 use Rattle.sketch.specs.Nodes.{node_low, node_high, range_low, range_high}
-use Rattle.sketch.specs.Answers.{refusing_cells, NamesRefusing}
+use Rattle.sketch.specs.Answers.{refusing_cells}
 use Rattle.listing.specs.declared.Listed.{Listed}
 use Rattle.listing.specs.Listing.{high_everywhere}
 use Rattle.listing.specs.Answers.{new_levels, Willing, high_at, Reached, EntryAnswer, entry_of, Asked, ListAnswer}
@@ -22,24 +22,20 @@ entry_same e key low high a b c =
     ap (λ k. at k e.low e.high) a ∙ ap (λ l. at key l e.high) b ∙ ap (at key low) c
 
 -- the draft holds the list as far as the keys below x say, and the nodes of x above its new levels reach g
-pub record Drafted {C : Type 0} (m : Model C) (s : Shape) (cells : List C) (enrolled t v g x n : ℕ) (found : List Listed) : Type 0 where
-  pub long : length found ≡ 1024
-  pub few : n ≤ x
-  pub some_known : n ≤ enrolled
-  pub many : (d : C) → n ≡ length (filter (high_everywhere m s cells d t v g) (range_with_len 0 x))
-  pub named : (d : C) → take n found ≡ map (entry_of m s cells d enrolled t v) (filter (high_everywhere m s cells d t v g) (range_with_len 0 x))
+pub record Drafted {C : Type 0} (m : Model C) (s : Shape) (cells : List C) (enrolled t v g x : ℕ) (found : List Listed) : Type 0 where
+  pub few : length found ≤ x
+  pub some_known : length found ≤ enrolled
+  pub named : (d : C) → found ≡ map (entry_of m s cells d enrolled t v) (filter (high_everywhere m s cells d t v g) (range_with_len 0 x))
   -- a node that misses may reach past the enrolled keys
   pub none_past : (d : C) (y : ℕ) → enrolled ≤ y → y < x → high_everywhere m s cells d t v g y ≡ false
   pub willing : (d : C) (k y : ℕ) → y < x → Asked m s cells d enrolled t v g k y → Willing m s cells d t v y k
   pub above : (d : C) → Reached m s cells d t v g x (new_levels s.bits x) (s.bits + 1)
 
 module _ {C : Type 0} (m : Model C) (s : Shape) (cells : List C) (enrolled t v g : ℕ) (tiny : s.bits ≤ 10) (room : enrolled ≤ 2 ^ s.bits) where
-  pub drafted_none : (found : List Listed) → length found ≡ 1024 → Drafted m s cells enrolled t v g 0 0 found
-  drafted_none found long = record {
-    long = long;
+  pub drafted_none : Drafted m s cells enrolled t v g 0 []
+  drafted_none = record {
     few = omega arith;
     some_known = omega arith;
-    many = λ d. refl;
     named = λ d. refl;
     none_past = λ d y from to. absurd (omega arith);
     willing = λ d k y l asked. absurd (omega arith);
@@ -47,19 +43,18 @@ module _ {C : Type 0} (m : Model C) (s : Shape) (cells : List C) (enrolled t v g
   }
 
   -- all enrolled keys are passed
-  pub drafted_all : (x n : ℕ) (found : List Listed) → enrolled ≤ x → Drafted m s cells enrolled t v g x n found → ListAnswer m s cells enrolled t v g found (Ok n)
-  drafted_all x n found past w = (
+  pub drafted_all : (x : ℕ) (found : ArrayVec Listed) → enrolled ≤ x → Drafted m s cells enrolled t v g x found.items → ListAnswer m s cells enrolled t v g (Ok found)
+  drafted_all x found past w = (
     w.some_known,
     λ d.
         let same = kept_skipped (high_everywhere m s cells d t v g) enrolled x past (w.none_past d) in
         record {
-          many = w.many d ∙ ap length same;
           named = w.named d ∙ ap (map (entry_of m s cells d enrolled t v)) same;
           willing = λ k y asked. w.willing d k y (omega (arith, asked.known)) asked;
         },
   )
 
-  module _ (x n : ℕ) (found : List Listed) (w : Drafted m s cells enrolled t v g x n found) (known : x < enrolled) where
+  module _ (x : ℕ) (found : List Listed) (w : Drafted m s cells enrolled t v g x found) (known : x < enrolled) where
     -- the new levels and those above them
     pub reached_all : (d : C) (k : ℕ) → Reached m s cells d t v g x k (new_levels s.bits x) → Reached m s cells d t v g x k (s.bits + 1)
     reached_all d k new j from to =
@@ -67,11 +62,6 @@ module _ {C : Type 0} (m : Model C) (s : Shape) (cells : List C) (enrolled t v g
         (λ (l : j < new_levels s.bits x). new j from l)
         (λ (l : new_levels s.bits x ≤ j). w.above d j l to)
         (cases_lt j (new_levels s.bits x))
-
-    -- a node of x that is asked and refuses
-    pub list_refused : (f : CellFault) → f.level ≤ s.bits → ((d : C) → Reached m s cells d t v g x (f.level + 1) (new_levels s.bits x)) → NamesRefusing m s cells t v f.level (node_of f.level x) f → ListAnswer m s cells enrolled t v g found (Err f)
-    list_refused f level new names =
-        (x, λ d. record { level = level; known = known; above = λ j up top. (reached_all d (f.level + 1) (new d) j (omega arith) (omega arith)).1 }, names)
 
     -- the nodes of x down to level k are known to be willing, and those above level k to reach g
     module _ (k y : ℕ) (level : k ≤ s.bits) (next : y ≡ first_key k (node_of k x + 1)) (own : (d : C) → Willing m s cells d t v x k) (reached : (d : C) → Reached m s cells d t v g x (k + 1) (s.bits + 1)) where
@@ -103,7 +93,7 @@ module _ {C : Type 0} (m : Model C) (s : Shape) (cells : List C) (enrolled t v g
           (cases_lt z x)
 
       -- the node at level k misses: the keys under it are passed over
-      pub drafted_missed : ((d : C) → high_at m s cells d t v x k < g) → Drafted m s cells enrolled t v g y n found
+      pub drafted_missed : ((d : C) → high_at m s cells d t v x k < g) → Drafted m s cells enrolled t v g y found
       drafted_missed low =
           let later = after_above x k in
           let none : (d : C) (z : ℕ) → x ≤ z → z < y → high_everywhere m s cells d t v g z ≡ false =
@@ -112,10 +102,8 @@ module _ {C : Type 0} (m : Model C) (s : Shape) (cells : List C) (enrolled t v g
           let same : (d : C) → filter (high_everywhere m s cells d t v g) (range_with_len 0 y) ≡ filter (high_everywhere m s cells d t v g) (range_with_len 0 x) =
           λ d. kept_skipped (high_everywhere m s cells d t v g) x y (omega arith) (none d) in
           record {
-            long = w.long;
             few = omega (arith, w.few);
             some_known = w.some_known;
-            many = λ d. w.many d ∙ sym (ap length (same d));
             named = λ d. w.named d ∙ sym (ap (map (entry_of m s cells d enrolled t v)) (same d));
             none_past = λ d z from to. ⊎_elim (λ (l : z < x). w.none_past d z from l) (λ (l : x ≤ z). none d z l to) (cases_lt z x);
             willing = next_willing (λ d j l h. omega (arith, low d));
@@ -130,7 +118,7 @@ module _ {C : Type 0} (m : Model C) (s : Shape) (cells : List C) (enrolled t v g
     own_key = omega arith
 
     -- the key's own node misses
-    pub drafted_unlisted : ((d : C) → Reached m s cells d t v g x 1 (new_levels s.bits x)) → EntryAnswer m s cells enrolled t v g x (Ok None) → Drafted m s cells enrolled t v g (x + 1) n found
+    pub drafted_unlisted : ((d : C) → Reached m s cells d t v g x 1 (new_levels s.bits x)) → EntryAnswer m s cells enrolled t v g x (Ok None) → Drafted m s cells enrolled t v g (x + 1) found
     drafted_unlisted new missed =
         drafted_missed 0 (x + 1) (omega arith) at_zero
         (λ d. subst (λ i. refusing_cells m s cells d t v 0 i ≡ 0) own_key (missed d).0)
@@ -138,7 +126,7 @@ module _ {C : Type 0} (m : Model C) (s : Shape) (cells : List C) (enrolled t v g
         (λ d. subst (λ i. node_high m s cells d t v 0 i < g) own_key (missed d).1)
 
     -- the key's own node reaches g too: the key is listed
-    pub drafted_listed : (e : Listed) → ((d : C) → Reached m s cells d t v g x 1 (new_levels s.bits x)) → EntryAnswer m s cells enrolled t v g x (Ok (Some e)) → Drafted m s cells enrolled t v g (x + 1) (n + 1) (set found n e)
+    pub drafted_listed : (e : Listed) → ((d : C) → Reached m s cells d t v g x 1 (new_levels s.bits x)) → EntryAnswer m s cells enrolled t v g x (Ok (Some e)) → Drafted m s cells enrolled t v g (x + 1) (found ++ e ∷ [])
     drafted_listed e new got =
         let reached : (d : C) → Reached m s cells d t v g x 1 (s.bits + 1) = λ d. reached_all d 1 (new d) in
         let own : (d : C) → Willing m s cells d t v x 0 = λ d. subst (λ i. refusing_cells m s cells d t v 0 i ≡ 0) own_key (got.2 d).0 in
@@ -154,16 +142,11 @@ module _ {C : Type 0} (m : Model C) (s : Shape) (cells : List C) (enrolled t v g
         let low_is = (got.2 d).1 ∙ sym (own_piece s.bits x (node_low m s cells d enrolled t v) (omega arith)) in
         let high_is = (got.2 d).2 ∙ sym (own_piece s.bits x (node_high m s cells d t v) (omega arith)) in
         entry_same e x (range_low m s cells d enrolled t v x x) (range_high m s cells d t v x x) got.0 low_is high_is in
-        let tight : 2 ^ s.bits ≤ 2 ^ 10 = pow_mono tiny in
-        let small : n < length found = omega (arith, w.long, w.few) in
         record {
-          long = length-set found n e ∙ w.long;
-          few = omega (arith, w.few);
-          some_known = omega (arith, w.few);
-          many = λ d. omega (arith, w.many d, ap length (more d), length_push (filter (high_everywhere m s cells d t v g) (range_with_len 0 x)) x);
+          few = omega (arith, w.few, length_push found e);
+          some_known = omega (arith, w.few, length_push found e);
           named = λ d.
-              take_more_set found n e small
-              ∙ ap (λ xs. xs ++ e ∷ []) (w.named d)
+              ap (λ xs. xs ++ e ∷ []) (w.named d)
               ∙ ap (λ y. map (entry_of m s cells d enrolled t v) (filter (high_everywhere m s cells d t v g) (range_with_len 0 x)) ++ y ∷ []) (entry d)
               ∙ sym (map_push (entry_of m s cells d enrolled t v) (filter (high_everywhere m s cells d t v g) (range_with_len 0 x)) x)
               ∙ sym (ap (map (entry_of m s cells d enrolled t v)) (more d));

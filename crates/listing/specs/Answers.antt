@@ -1,6 +1,7 @@
 -- What a list is answered with, and which nodes it asks on the way.
-use Rattle.std.specs.Prelude.{◌≡◌, ℕ, ◌+◌, ◌<◌, ◌≤◌, min, Bool, List, map, length, take, Some, None, Ok, Err, Option, Result, nat_lt}
+use Rattle.std.specs.Prelude.{◌≡◌, ℕ, ◌+◌, ◌<◌, ◌≤◌, min, Bool, List, map, length, Some, None, Ok, Err, Option, Result, nat_lt}
 use Rattle.std.specs.Int.Count.{count_trailing_zeros}
+use Rattle.arrayvec.specs.ArrayVec.{ArrayVec}
 use Rattle.window.specs.Meaning.{Model}
 use Rattle.sketch.specs.declared.faults.CellFault.{CellFault}
 use Rattle.sketch.specs.Layout.{Shape, node_of}
@@ -57,14 +58,13 @@ module _ {C : Type 0} (m : Model C) (s : Shape) (cells : List C) (d : C) (enroll
     pub known : x < enrolled
     pub above : (j : ℕ) → k < j → j ≤ s.bits → g ≤ high_at m s cells d t v x j
 
-  -- the first n places hold the list for threshold g, in order, and no cell that it asks refuses
-  pub record Lists (g n : ℕ) (found : List Listed) : Type 0 where
-    pub many : n ≡ length (listed_keys m s cells d t v enrolled g)
-    pub named : take n found ≡ map entry_of (listed_keys m s cells d t v enrolled g)
+  -- what was found is the list for threshold g, in order, and no cell that it asks refuses
+  pub record Lists (g : ℕ) (found : List Listed) : Type 0 where
+    pub named : found ≡ map entry_of (listed_keys m s cells d t v enrolled g)
     pub willing : (k x : ℕ) → Asked g k x → Willing m s cells d t v x k
 
 -- the list for threshold g is found, with no more keys than are enrolled, or a cell that it asks refuses and is named
-abbrev pub ListAnswer : {C : Type 0} → Model C → Shape → List C → (enrolled t v g : ℕ) → List Listed → Result ℕ CellFault → Type 0
-ListAnswer {C} m s cells enrolled t v g found (Ok n) = (n ≤ enrolled) × ((d : C) → Lists m s cells d enrolled t v g n found)
-ListAnswer {C} m s cells enrolled t v g found (Err f) =
+abbrev pub ListAnswer : {C : Type 0} → Model C → Shape → List C → (enrolled t v g : ℕ) → Result (ArrayVec Listed) CellFault → Type 0
+ListAnswer {C} m s cells enrolled t v g (Ok found) = (length found.items ≤ enrolled) × ((d : C) → Lists m s cells d enrolled t v g found.items)
+ListAnswer {C} m s cells enrolled t v g (Err f) =
     (x : ℕ) × ((d : C) → Asked m s cells d enrolled t v g f.level x) × NamesRefusing m s cells t v f.level (node_of f.level x) f

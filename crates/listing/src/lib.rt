@@ -5,7 +5,7 @@ mod levels;
 pub mod lists;
 
 // One key of a list, with its low and high.
-#[derive(Clone, Copy, PartialEq, Eq, Debug)]
+#[derive(Clone, Copy, PartialEq, Eq, Debug, Default)]
 pub struct Listed {
     pub key: u32,
     pub low: u32,

@@ -4,6 +4,7 @@ ghost use Rattle.listing.specs.Answers.{EntryAnswer, ListAnswer};
 
 use crate::Listed;
 use crate::levels::{highest_miss, key_after};
+use arrayvec::ArrayVec;
 use sketch::faults::CellFault;
 use sketch::question::Question;
 use window::Counter;
@@ -15,33 +16,27 @@ pub const MOST: usize = 1024;
 fn entry<C: Counter>(question: &Question<C>, key: u32, g: u32) -> Result<Option<Listed>, CellFault>
     ensures answered { EntryAnswer C.Counter.model (shape_of question.now.sketch.now) question.now.cells.now question.now.enrolled question.now.t question.now.v g key result }
 {
-    match question.node_reaching(0, key, g)? {
-        Some((low, high)) => Ok(Some(Listed { key, low, high })),
-        None => Ok(None),
-    }
+    let reached = question.node_reaching(0, key, g)?;
+    Ok(reached.map(|(low, high)| Listed { key, low, high }))
 }
 
-// Finds the keys whose nodes all have a high of g or more, and says how many they are. Where a node
-// misses g, every key under it is passed over, and no node is counted twice.
-pub fn list<C: Counter>(
-    question: &Question<C>,
-    g: u32,
-    found: &mut [Listed; MOST],
-) -> Result<u32, CellFault>
-    ensures answered { ListAnswer C.Counter.model (shape_of question.now.sketch.now) question.now.cells.now question.now.enrolled question.now.t question.now.v g found.new result }
+// Finds the keys whose nodes all have a high of g or more. Where a node misses g, every key under it
+// is passed over, and no node is counted twice.
+pub fn list<C: Counter>(question: &Question<C>, g: u32) -> Result<ArrayVec<Listed, MOST>, CellFault>
+    ensures answered { ListAnswer C.Counter.model (shape_of question.now.sketch.now) question.now.cells.now question.now.enrolled question.now.t question.now.v g result }
 {
+    let mut found = ArrayVec::new();
     let mut key = 0;
-    let mut many: u32 = 0;
+    // a `while`, since a miss passes over many keys at once
     while key < question.enrolled {
         if let Some(level) = highest_miss(question, key, g)? {
             key = key_after(key, level);
             continue;
         }
         if let Some(listed) = entry(question, key, g)? {
-            found[many as usize] = listed;
-            many += 1;
+            found.push(listed);
         }
         key += 1;
     }
-    Ok(many)
+    Ok(found)
 }

@@ -1,5 +1,6 @@
 -- Words for the steps inside: contracts of the crate's own functions cite them, those of its public ones do not.
 use Rattle.std.specs.Prelude.{◌≡◌, ℕ, ◌+◌, ◌<◌, ◌≤◌, List, [], ◌∷◌, ◌++◌, length, take, drop}
+use Rattle.reply.specs.declared.pieces.Pen.{Pen}
 use Rattle.reply.specs.declared.pieces.Piece.{Piece as Held}
 use Rattle.reply.specs.declared.pieces.Piece.TheVariants.{Bytes, Number}
 use Rattle.reply.specs.Pieces.{Piece, as_is, in_decimal, line_text}
@@ -32,7 +33,13 @@ pub record Puts (was : List ℕ) (at : ℕ) (text after : List ℕ) (end : ℕ) 
 abbrev pub Unfilled : (was after : List ℕ) → ℕ → Type 0
 Unfilled was after end = length was < end → after ≡ was
 
--- a line of pieces put at a place, within the room for it
-pub record PutsLine (was : List ℕ) (at : ℕ) (ps : List Piece) (after : List ℕ) (end : ℕ) : Type 0 where
-  pub put : Puts was at (line_text ps) after end
-  pub within : end ≤ at + line_room ps
+-- a pen that has put a text, over the same places
+pub record Writes (was : Pen) (text : List ℕ) (after : Pen) : Type 0 where
+  pub same : after.out.ghost_name ≡ was.out.ghost_name
+  pub long : length after.out.now ≡ length was.out.now
+  pub put : Puts was.out.now was.at text after.out.now after.at
+
+-- a pen that has put a line of pieces, within the room for it
+pub record WritesLine (was : Pen) (ps : List Piece) (after : Pen) : Type 0 where
+  pub writes : Writes was (line_text ps) after
+  pub within : after.at ≤ was.at + line_room ps

@@ -14,7 +14,7 @@ pub enum DeskFault {
 }
 
 impl DeskFault {
-    // The number by which a fault is known.
+    // The number by which a fault is known. A method, since a fault is no number: its name says which number this is.
     pub fn number(self) -> u32
         ensures numbered { result ≡ Told.number self }
     {

@@ -1,9 +1,9 @@
 // The pieces that a reply is made of, put into bytes one after another.
-//
-// A walk over too few places still tells how many it wants, so one walk serves to measure and to write.
-ghost use Rattle.std.specs.Prelude.{◌+◌, ◌^◌, ◌<◌, ◌≤◌, map, length, decimal};
+ghost use Rattle.std.specs.Prelude.{◌≡◌, ◌+◌, ◌^◌, ◌<◌, ◌≤◌, map, length};
 ghost use Rattle.reply.specs.Pieces.{piece_text};
-ghost use Rattle.reply.specs.Steps.{piece_of, piece_room, line_room, Puts, Unfilled, PutsLine};
+ghost use Rattle.reply.specs.Steps.{piece_of, piece_room, line_room, Unfilled, Writes, WritesLine};
+
+use itoa::Buffer;
 
 // A piece of a line: bytes as they stand, or a number in decimal.
 #[derive(Clone, Copy)]
@@ -12,53 +12,77 @@ pub(crate) enum Piece<'a> {
     Number(u64),
 }
 
-// Puts bytes at a place if they fit there, and gives the place after them.
-fn put(out: &mut [u8], at: usize, bytes: &[u8]) -> usize
-    requires fits { at + length bytes.now < 2 ^ 64 }
-    ensures put { Puts out.old at bytes.now out.new result }
-    ensures short { Unfilled out.old out.new result }
-{
-    let end = at + bytes.len();
-    if end <= out.len() {
-        out[at..end].copy_from_slice(bytes);
-    }
-    end
-}
+// A number of 32 bits is one in decimal.
+impl From<u32> for Piece<'_> {
+    ghost use Rattle.reply.specs.declared.pieces.Piece.TheVariants.{Number};
 
-// Puts the decimal text of a number at a place: first the number without its last digit, then that digit.
-fn put_number(out: &mut [u8], at: usize, number: u64) -> usize
-    requires fits { at + 20 < 2 ^ 64 }
-    ensures put { Puts out.old at (decimal number) out.new result }
-    ensures within { result ≤ at + 20 }
-{
-    let digit = [b'0' + (number % 10) as u8];
-    if number < 10 {
-        return put(out, at, &digit);
-    }
-    let end = put_number(out, at, number / 10);
-    put(out, end, &digit)
-}
+    ghost from_gives = { λ n p. p ≡ Number n };
 
-// Puts a piece at a place.
-fn put_piece(out: &mut [u8], at: usize, piece: Piece) -> usize
-    requires fits { at + piece_room (piece_of piece) < 2 ^ 64 }
-    ensures put { Puts out.old at (piece_text (piece_of piece.entry)) out.new result }
-    ensures within { result ≤ at + piece_room (piece_of piece.entry) }
-{
-    match piece {
-        Piece::Bytes(bytes) => put(out, at, bytes),
-        Piece::Number(number) => put_number(out, at, number),
+    fn from(number: u32) -> Self {
+        Piece::Number(u64::from(number))
     }
 }
 
-// Puts a line at a place: its pieces, then a newline.
-pub(crate) fn put_line(out: &mut [u8], at: usize, pieces: &[Piece]) -> usize
-    requires fits { at + line_room (map piece_of pieces.now) < 2 ^ 64 }
-    ensures line { PutsLine out.old at (map piece_of pieces.now) out.new result }
-{
-    let mut end = at;
-    for piece in pieces {
-        end = put_piece(out, end, *piece);
+// A pen over lent places, and the place that it has come to.
+//
+// Over too few places it still goes on, without writing, so that it tells how many it wants: it measures as it writes.
+#[derive(Drop)]
+pub(crate) struct Pen<'a> {
+    out: &'a mut [u8],
+    at: usize,
+}
+
+impl<'a> Pen<'a> {
+    // A pen at the first of the places.
+    pub(crate) fn new(out: &'a mut [u8]) -> Pen<'a>
+        ensures same { result.out.ghost_name ≡ out.entry.ghost_name }
+        ensures places { result.out.now ≡ out.old }
+        ensures first { result.at ≡ 0 }
+    {
+        Pen { out, at: 0 }
     }
-    put(out, end, b"\n")
+
+    // How many bytes it has come to.
+    pub(crate) fn at(&self) -> usize
+        ensures told { result ≡ self.now.at }
+    {
+        self.at
+    }
+
+    // Puts bytes, if they still fit.
+    fn put(&mut self, bytes: &[u8])
+        requires fits { self.old.at + length bytes.now < 2 ^ 64 }
+        ensures put { Writes self.old bytes.now self.new }
+        ensures short { Unfilled self.old.out.now self.new.out.now self.new.at }
+    {
+        let end = self.at + bytes.len();
+        let out = &mut *self.out;
+        if end <= out.len() {
+            out[self.at..end].copy_from_slice(bytes);
+        }
+        self.at = end;
+    }
+
+    // Puts a piece.
+    fn put_piece(&mut self, piece: Piece)
+        requires fits { self.old.at + piece_room (piece_of piece) < 2 ^ 64 }
+        ensures put { Writes self.old (piece_text (piece_of piece.entry)) self.new }
+        ensures within { self.new.at ≤ self.old.at + piece_room (piece_of piece.entry) }
+    {
+        match piece {
+            Piece::Bytes(bytes) => self.put(bytes),
+            Piece::Number(number) => self.put(Buffer::new().format(number).as_bytes()),
+        }
+    }
+
+    // Puts a line: its pieces, then a newline.
+    pub(crate) fn put_line(&mut self, pieces: &[Piece])
+        requires fits { self.old.at + line_room (map piece_of pieces.now) < 2 ^ 64 }
+        ensures line { WritesLine self.old (map piece_of pieces.now) self.new }
+    {
+        for piece in pieces {
+            self.put_piece(*piece);
+        }
+        self.put(b"\n");
+    }
 }

@@ -1,27 +1,15 @@
-use Rattle.std.proofs.Common.{◌+◌, ◌^◌, ◌≤◌, Ok, Err, sym, ap, ◌∙◌, subst, subst₂, arith, pow_mono}
-use Rattle.std.proofs.lemmas.Result.{err_from_is_err_and}
+use Rattle.std.proofs.Common.{◌+◌, ◌^◌, ◌≤◌, Ok, sym, ap, ◌∙◌, subst, arith, pow_mono}
 use Rattle.sketch.specs.Layout.{shape_of}
-use Rattle.listing.specs.Answers.{MissAnswer, EntryAnswer, ListAnswer}
-use Rattle.listing.proofs.Drafts.{Drafted, drafted_none, drafted_all, reached_all, list_refused, drafted_missed, drafted_unlisted, drafted_listed}
+use Rattle.listing.specs.Answers.{MissAnswer, EntryAnswer}
+use Rattle.listing.proofs.Drafts.{Drafted, drafted_none, drafted_all, reached_all, drafted_missed, drafted_unlisted, drafted_listed}
 use Rattle.listing.proofs.lists.list.Goals as goal
 use Rattle.listing.proofs.lists.list.Goals.{in-Some-2, in_default-2}
 
 pub loop-key-init : goal.loop-key-init
 loop-key-init g c =
     let q = c.args.question.now in
-    drafted_none g.C.Counter.model (shape_of q.sketch.now) q.cells.now q.enrolled q.t q.v c.args.g q.sketch.now.bits_range q.room c.args.found.now c.told-found
-
-pub returns-in_err-level : goal.returns-in_err-level
-returns-in_err-level g c =
-    let q = c.args.question.now in
-    let s = shape_of q.sketch.now in
-    let m = g.C.Counter.model in
-    let p = err_from_is_err_and c.from_residual.result c.from_residual.ensures.1 in
-    let refused = c.in_err-level.ensures.answered in
-    let f = c.in_err-level.field-0.0 in
-    let level : f.level ≤ s.bits = omega (arith, refused.1) in
-    let named = list_refused m s q.cells.now q.enrolled q.t q.v c.args.g q.sketch.now.bits_range q.room c.loop-key.key c.loop-key.many c.loop-key.found c.loop-key.invariant c.loop-key-test.true f level refused.2 refused.3 in
-    record { answered = subst (ListAnswer m s q.cells.now q.enrolled q.t q.v c.args.g c.loop-key.found) (sym (p.1 ∙ ap Err p.2)) named }
+    subst (Drafted g.C.Counter.model (shape_of q.sketch.now) q.cells.now q.enrolled q.t q.v c.args.g 0) (sym c.new-found.ensures)
+    (drafted_none g.C.Counter.model (shape_of q.sketch.now) q.cells.now q.enrolled q.t q.v c.args.g q.sketch.now.bits_range q.room)
 
 pub key_after-key-requires : goal.key_after-key-requires
 key_after-key-requires g c =
@@ -39,13 +27,13 @@ loop-key-preserved-in-Some g c =
     let k = c.in-Some.level in
     let missed = subst (λ o. MissAnswer m s q.cells.now q.t q.v c.args.g c.loop-key.key (Ok o)) c.in-Some.is c.in_ok-level.ensures.answered in
     let level : k ≤ s.bits = omega (arith, missed.1) in
-    drafted_missed m s q.cells.now q.enrolled q.t q.v c.args.g q.sketch.now.bits_range q.room c.loop-key.key c.loop-key.many c.loop-key.found c.loop-key.invariant c.loop-key-test.true k c.key_after-key.result level c.key_after-key.ensures.next
+    drafted_missed m s q.cells.now q.enrolled q.t q.v c.args.g q.sketch.now.bits_range q.room c.loop-key.key c.loop-key.found.items c.loop-key.invariant c.loop-key-test.true k c.key_after-key.result level c.key_after-key.ensures.next
     (λ d. (missed.2 d).0)
-    (λ d. reached_all m s q.cells.now q.enrolled q.t q.v c.args.g q.sketch.now.bits_range q.room c.loop-key.key c.loop-key.many c.loop-key.found c.loop-key.invariant c.loop-key-test.true d (k + 1) (missed.2 d).2)
+    (λ d. reached_all m s q.cells.now q.enrolled q.t q.v c.args.g q.sketch.now.bits_range q.room c.loop-key.key c.loop-key.found.items c.loop-key.invariant c.loop-key-test.true d (k + 1) (missed.2 d).2)
     (λ d. (missed.2 d).1)
 
-pub bounds-found-many : goal.bounds-found-many
-bounds-found-many g c =
+pub push-requires : goal.push-requires
+push-requires g c =
     let q = c.args.question.now in
     let tight : 2 ^ q.sketch.now.bits ≤ 2 ^ 10 = pow_mono q.sketch.now.bits_range in
     omega (arith, q.room, c.loop-key-test.true, c.loop-key.invariant.few)
@@ -59,15 +47,15 @@ loop-key-preserved g c =
     elim c.match-branch-4.branch [
       | in-Some-2 w ↦
           let got = subst (λ o. EntryAnswer m s q.cells.now q.enrolled q.t q.v c.args.g c.loop-key.key (Ok o)) w.in-Some-2.is c.in_ok-listed.ensures.answered in
-          subst₂ (Drafted m s q.cells.now q.enrolled q.t q.v c.args.g (c.loop-key.key + 1)) (sym w.many-is) (sym w.found-is)
-          (drafted_listed m s q.cells.now q.enrolled q.t q.v c.args.g q.sketch.now.bits_range q.room c.loop-key.key c.loop-key.many c.loop-key.found c.loop-key.invariant c.loop-key-test.true w.in-Some-2.listed reached got)
+          subst (Drafted m s q.cells.now q.enrolled q.t q.v c.args.g (c.loop-key.key + 1)) (sym (ap (λ v. v.items) w.found-is ∙ w.push.ensures.items))
+          (drafted_listed m s q.cells.now q.enrolled q.t q.v c.args.g q.sketch.now.bits_range q.room c.loop-key.key c.loop-key.found.items c.loop-key.invariant c.loop-key-test.true w.in-Some-2.listed reached got)
       | in_default-2 w ↦
           let missed = subst (λ o. EntryAnswer m s q.cells.now q.enrolled q.t q.v c.args.g c.loop-key.key (Ok o)) w.in_default-2.is c.in_ok-listed.ensures.answered in
-          subst₂ (Drafted m s q.cells.now q.enrolled q.t q.v c.args.g (c.loop-key.key + 1)) (sym w.many-is) (sym w.found-is)
-          (drafted_unlisted m s q.cells.now q.enrolled q.t q.v c.args.g q.sketch.now.bits_range q.room c.loop-key.key c.loop-key.many c.loop-key.found c.loop-key.invariant c.loop-key-test.true reached missed)
+          subst (Drafted m s q.cells.now q.enrolled q.t q.v c.args.g (c.loop-key.key + 1)) (sym (ap (λ v. v.items) w.found-is))
+          (drafted_unlisted m s q.cells.now q.enrolled q.t q.v c.args.g q.sketch.now.bits_range q.room c.loop-key.key c.loop-key.found.items c.loop-key.invariant c.loop-key-test.true reached missed)
     ]
 
 pub returns : goal.returns
 returns g c =
     let q = c.args.question.now in
-    record { answered = drafted_all g.C.Counter.model (shape_of q.sketch.now) q.cells.now q.enrolled q.t q.v c.args.g q.sketch.now.bits_range q.room c.loop-key.key c.loop-key.many c.loop-key.found c.loop-key-test.false c.loop-key.invariant }
+    record { answered = drafted_all g.C.Counter.model (shape_of q.sketch.now) q.cells.now q.enrolled q.t q.v c.args.g q.sketch.now.bits_range q.room c.loop-key.key c.loop-key.found c.loop-key-test.false c.loop-key.invariant }

@@ -39,11 +39,6 @@ returns g c =
       lawful = step_lawful g.C.Counter.model g.met.C.Counter.keeps before after (enrol bytes) true step;
     }
 
-pub put_next-requires : goal.put_next-requires
-put_next-requires g c =
-    let left = key_left c.args.self.now (length c.args.cells.now) c.args.register.now c.args.serial.now c.in_ok-record.ensures.fresh.0 in
-    record { left = left.0; sized = left.1 }
-
 pub returns-in_err-record : goal.returns-in_err-record
 returns-in_err-record g c =
     let self = c.args.self.now in

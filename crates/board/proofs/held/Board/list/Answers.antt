@@ -1,9 +1,12 @@
-use Rattle.std.proofs.Common.{true, length, is_ok}
+use Rattle.std.proofs.Common.{true, is_ok, Ok, Err, subst}
 use Rattle.std.proofs.lemmas.Result.{err_from_is_err_and}
 use Rattle.board.specs.declared.faults.Fault.TheVariants.{Board, Cell}
 use Rattle.board.specs.Held.{state_of}
+use Rattle.listing.specs.Answers.{ListAnswer}
+use Rattle.board.proofs.Asked.{asked}
+use Rattle.board.specs.Lists.{HandedOver}
 use Rattle.board.proofs.Lawfully.{list_lawful}
-use Rattle.board.proofs.ListSteps.{list_sized, found_few, refused_before, refused_by_cell, refused_room, written, by_fault}
+use Rattle.board.proofs.ListSteps.{refused_before, refused_by_cell, refused_room, written, by_fault}
 use Rattle.board.proofs.held.Board.list.Goals as goal
 
 pub returns-in_err-may_list : goal.returns-in_err-may_list
@@ -18,25 +21,17 @@ returns-in_err-may_list g c =
       lawful = list_lawful m g.met.C.Counter.keeps (state_of a.self.now a.cells.now a.register.now) a.least a.t a.v (is_ok r);
     }
 
-pub find-requires : goal.find-requires
-find-requires g c = record { sized = (list_sized c.args.self.now (length c.args.cells.now) (length c.args.register.now) c.args.least c.args.t c.args.v c.in_ok-may_list.ensures.tested).0 }
-
-pub returns-in_err-count : goal.returns-in_err-count
-returns-in_err-count g c =
+pub returns-in_err-found : goal.returns-in_err-found
+returns-in_err-found g c =
     let m = g.C.Counter.model in
     let a = c.args in
-    let r = c.from_residual-in_err-count.result in
-    let p = err_from_is_err_and r c.from_residual-in_err-count.ensures.1 in
-    let f = c.in_err-count.field-0.0 in
+    let r = c.from_residual-in_err-found.result in
+    let p = err_from_is_err_and r c.from_residual-in_err-found.ensures.1 in
+    let f = c.in_err-found.field-0.0 in
     record {
-      listed = by_fault m a.self.now a.cells.now a.register.now a.places.now a.places.now a.least a.t a.v r p.0 (Cell f) p.1 p.2 (refused_by_cell m a.self.now a.cells.now a.register.now a.places.now a.least a.t a.v c.in_ok-may_list.ensures.tested c.find.new.found f c.in_err-count.ensures.found);
+      listed = by_fault m a.self.now a.cells.now a.register.now a.places.now a.places.now a.least a.t a.v r p.0 (Cell f) p.1 p.2 (refused_by_cell m a.self.now a.cells.now a.register.now a.places.now a.least a.t a.v c.in_ok-may_list.ensures.tested f (asked (λ s cs n t v. ListAnswer m s cs n t v a.least (Err f)) c.question.ensures.sketch c.question.ensures.cells c.question.ensures.enrolled c.question.ensures.t c.question.ensures.v c.in_err-found.ensures.answered));
       lawful = list_lawful m g.met.C.Counter.keeps (state_of a.self.now a.cells.now a.register.now) a.least a.t a.v (is_ok r);
     }
-
-pub hand_over-requires : goal.hand_over-requires
-hand_over-requires g c =
-    let a = c.args in
-    record { drafted = found_few g.C.Counter.model a.self.now a.cells.now a.register.now a.places.now a.least a.t a.v c.in_ok-may_list.ensures.tested c.find.new.found c.in_ok-count.count c.in_ok-count.ensures.found }
 
 pub returns-in_err-hand_over : goal.returns-in_err-hand_over
 returns-in_err-hand_over g c =
@@ -47,7 +42,7 @@ returns-in_err-hand_over g c =
     let f = c.in_err-hand_over.field-0.0 in
     record {
       listed = by_fault m a.self.now a.cells.now a.register.now a.places.now c.hand_over.new.places a.least a.t a.v r p.0 (Board f) p.1 p.2
-          (refused_room m a.self.now a.cells.now a.register.now a.places.now a.least a.t a.v c.in_ok-may_list.ensures.tested c.find.new.found c.in_ok-count.count c.in_ok-count.ensures.found c.hand_over.new.places f c.in_err-hand_over.ensures.handed);
+          (refused_room m a.self.now a.cells.now a.register.now a.places.now a.least a.t a.v c.in_ok-may_list.ensures.tested c.in_ok-found.found (asked (λ s cs n t v. ListAnswer m s cs n t v a.least (Ok c.in_ok-found.found)) c.question.ensures.sketch c.question.ensures.cells c.question.ensures.enrolled c.question.ensures.t c.question.ensures.v c.in_ok-found.ensures.answered) c.hand_over.new.places f (subst (λ l. HandedOver l a.places.now c.hand_over.new.places (Err f)) c.as_slice.ensures.value c.in_err-hand_over.ensures.handed));
       lawful = list_lawful m g.met.C.Counter.keeps (state_of a.self.now a.cells.now a.register.now) a.least a.t a.v (is_ok r);
     }
 
@@ -56,6 +51,6 @@ returns g c =
     let m = g.C.Counter.model in
     let a = c.args in
     record {
-      listed = written m a.self.now a.cells.now a.register.now a.places.now a.least a.t a.v c.in_ok-may_list.ensures.tested c.find.new.found c.in_ok-count.count c.in_ok-count.ensures.found c.hand_over.new.places c.in_ok-hand_over.field-0 c.in_ok-hand_over.ensures.handed;
+      listed = written m a.self.now a.cells.now a.register.now a.places.now a.least a.t a.v c.in_ok-may_list.ensures.tested c.in_ok-found.found (asked (λ s cs n t v. ListAnswer m s cs n t v a.least (Ok c.in_ok-found.found)) c.question.ensures.sketch c.question.ensures.cells c.question.ensures.enrolled c.question.ensures.t c.question.ensures.v c.in_ok-found.ensures.answered) c.hand_over.new.places c.in_ok-hand_over.field-0 (subst (λ l. HandedOver l a.places.now c.hand_over.new.places (Ok c.in_ok-hand_over.field-0)) c.as_slice.ensures.value c.in_ok-hand_over.ensures.handed);
       lawful = list_lawful m g.met.C.Counter.keeps (state_of a.self.now a.cells.now a.register.now) a.least a.t a.v true;
     }

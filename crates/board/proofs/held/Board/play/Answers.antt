@@ -9,7 +9,7 @@ use Rattle.board.specs.Serials.{serials_of}
 use Rattle.board.specs.Held.{state_of}
 use Rattle.board.specs.Causes.{play_causes}
 use Rattle.board.specs.Outcomes.{PlayAnswer, PlayOutcome}
-use Rattle.board.proofs.Turning.{by_board, by_cell, play_in_time, play_left}
+use Rattle.board.proofs.Turning.{by_board, by_cell, play_in_time}
 use Rattle.board.proofs.Lawfully.{play_lawful}
 use Rattle.board.proofs.held.Board.play.Goals as goal
 
@@ -39,7 +39,7 @@ returns-in_err-tell g c =
     let known = c.in_ok-key.ensures.known in
     let told = c.in_err-tell.ensures.tells in
     let p = err_from_is_err_and r c.from_residual-in_err-tell.ensures.1 in
-    let first = subst (λ k. NamesFirst m (shape_of self.sketch) k t 0 cells c.in_err-tell.field-0.0) known.1 told.1 in
+    let first = subst (λ k. NamesFirst m (shape_of self.sketch) k t 0 cells c.in_err-tell.field-0.0) known.1.0 told.1 in
     let played : PlayOutcome m self self cells c.tell.new.cells records bytes t r =
     by_cell (play_causes self (length cells) records bytes t) ((self ≡ self) × (c.tell.new.cells ≡ cells)) (PlayAnswer m self self cells c.tell.new.cells records bytes t) r p.0 c.in_err-tell.field-0.0 p.1 p.2 known.0 (refl, told.0, first) in
     record { played = played; lawful = play_lawful m g.met.C.Counter.keeps self self cells c.tell.new.cells records bytes t r played }
@@ -53,12 +53,12 @@ returns g c =
     let bytes = c.args.serial.now in
     let t = c.args.t in
     let known = c.in_ok-key.ensures.known in
-    let told = subst (λ k. ToldFrom m (shape_of self.sketch) k t 0 cells c.tell.new.cells) known.1 c.in_ok-tell.ensures.tells in
+    let told = subst (λ k. ToldFrom m (shape_of self.sketch) k t 0 cells c.tell.new.cells) known.1.0 c.in_ok-tell.ensures.tells in
     let before = state_of self cells records in
     let noted = c.note_play.ensures in
     let after = state_of c.note_play.new.self c.tell.new.cells records in
     let step : Plays m before bytes t after = record {
-      known = omega (arith, known.1, known.2);
+      known = omega (arith, known.1.0, known.1.1);
       in_time = play_in_time self (length cells) records bytes t known.0;
       shape = ap shape_of noted.sketch;
       told = told;
@@ -70,6 +70,3 @@ returns g c =
       played = (known.0, record { answer = noted.number; step = step; opened = noted.opened; sketch = noted.sketch; enrolled = noted.enrolled });
       lawful = step_lawful m g.met.C.Counter.keeps before after (play bytes t) true step;
     }
-
-pub note_play-requires : goal.note_play-requires
-note_play-requires g c = record { few = play_left c.args.self.now (length c.args.cells.now) c.args.register.now c.args.serial.now c.args.t c.in_ok-key.ensures.known.0 }
