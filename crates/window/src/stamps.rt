@@ -14,5 +14,5 @@ pub fn live_among(stamps: &[u32], t: u32, v: u32) -> u32
     requires few { length stamps.now < 2 ^ 32 }
     ensures counted { result ≡ live_count t v stamps.now }
 {
-    stamps.iter().filter(|s| is_live(**s, t, v)).count() as u32
+    stamps.iter().map(|s| u32::from(is_live(*s, t, v))).sum()
 }
