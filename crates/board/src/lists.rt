@@ -9,6 +9,7 @@ ghost use Rattle.board.specs.Lists.{HandedOver, ListOutcome};
 use crate::faults::{Fault, Refusal};
 use crate::held::Board;
 use crate::records::Record;
+use arrayvec::ArrayVec;
 use listing::Listed;
 use listing::lists::list;
 use window::Counter;
@@ -69,7 +70,8 @@ impl Board {
         ensures lawful { Lawful C.Counter.model (state_of self.now cells.now register.now) (Book.list least t v) (is_ok result) (state_of self.now cells.now register.now) }
     {
         self.may_list(cells.len(), register, least, t, v)?;
-        let found = list(&self.question(cells, t, v), least)?;
+        let mut found = ArrayVec::new();
+        list(&self.question(cells, t, v), least, &mut found)?;
         Ok(hand_over(found.as_slice(), places)?)
     }
 }

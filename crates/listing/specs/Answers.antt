@@ -68,3 +68,8 @@ abbrev pub ListAnswer : {C : Type 0} → Model C → Shape → List C → (enrol
 ListAnswer {C} m s cells enrolled t v g (Ok found) = (length found.items ≤ enrolled) × ((d : C) → Lists m s cells d enrolled t v g found.items)
 ListAnswer {C} m s cells enrolled t v g (Err f) =
     (x : ℕ) × ((d : C) → Asked m s cells d enrolled t v g f.level x) × NamesRefusing m s cells t v f.level (node_of f.level x) f
+
+-- the answer of a call that puts what it finds into a vector lent to it: that vector, or the refusal
+abbrev pub with_found : ArrayVec Listed → Result (Unit {0}) CellFault → Result (ArrayVec Listed) CellFault
+with_found found (Ok done) = Ok found
+with_found found (Err f) = Err f

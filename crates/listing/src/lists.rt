@@ -1,6 +1,6 @@
 // The list of the keys whose nodes reach a threshold, in key order.
 ghost use Rattle.sketch.specs.Layout.{shape_of};
-ghost use Rattle.listing.specs.Answers.{EntryAnswer, ListAnswer};
+ghost use Rattle.listing.specs.Answers.{EntryAnswer, with_found, ListAnswer};
 
 use crate::Listed;
 use crate::levels::{highest_miss, key_after};
@@ -21,11 +21,16 @@ fn entry<C: Counter>(question: &Question<C>, key: u32, g: u32) -> Result<Option<
 }
 
 // Finds the keys whose nodes all have a high of g or more. Where a node misses g, every key under it
-// is passed over, and no node is counted twice.
-pub fn list<C: Counter>(question: &Question<C>, g: u32) -> Result<ArrayVec<Listed, MOST>, CellFault>
-    ensures answered { ListAnswer C.Counter.model (shape_of question.now.sketch.now) question.now.cells.now question.now.enrolled question.now.t question.now.v g result }
+// is passed over, and no node is counted twice. The vector is lent: one that was handed out would be
+// moved, 12 KB, whatever it holds.
+pub fn list<C: Counter>(
+    question: &Question<C>,
+    g: u32,
+    found: &mut ArrayVec<Listed, MOST>,
+) -> Result<(), CellFault>
+    ensures answered { ListAnswer C.Counter.model (shape_of question.now.sketch.now) question.now.cells.now question.now.enrolled question.now.t question.now.v g (with_found found.new result) }
 {
-    let mut found = ArrayVec::new();
+    found.clear();
     let mut key = 0;
     // a `while`, since a miss passes over many keys at once
     while key < question.enrolled {
@@ -38,5 +43,5 @@ pub fn list<C: Counter>(question: &Question<C>, g: u32) -> Result<ArrayVec<Liste
         }
         key += 1;
     }
-    Ok(found)
+    Ok(())
 }

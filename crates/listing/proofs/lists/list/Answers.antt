@@ -8,7 +8,7 @@ use Rattle.listing.proofs.lists.list.Goals.{in-Some-2, in_default-2}
 pub loop-key-init : goal.loop-key-init
 loop-key-init g c =
     let q = c.args.question.now in
-    subst (Drafted g.C.Counter.model (shape_of q.sketch.now) q.cells.now q.enrolled q.t q.v c.args.g 0) (sym c.new-found.ensures)
+    subst (Drafted g.C.Counter.model (shape_of q.sketch.now) q.cells.now q.enrolled q.t q.v c.args.g 0) (sym c.clear.ensures)
     (drafted_none g.C.Counter.model (shape_of q.sketch.now) q.cells.now q.enrolled q.t q.v c.args.g q.sketch.now.bits_range q.room)
 
 pub key_after-key-requires : goal.key_after-key-requires
