@@ -1,3 +1,4 @@
+pub mod Numbers
 pub mod Registers
 pub mod Turning
 pub mod Enrolling

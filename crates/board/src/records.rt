@@ -1,12 +1,22 @@
 // Serials, and the records of the register that hold them.
 ghost use Rattle.std.specs.Prelude.{◌≡◌, ◌^◌, ◌<◌, length, MatchOption};
-ghost use Rattle.daybook.specs.Book.{key_in};
+ghost use Rattle.daybook.specs.Book.{key_in, same_bytes};
 ghost use Rattle.board.specs.Serials.{is_serial_byte, record_of, serials, IsKey};
 
 // A record of the register: the sixteen bytes of a serial, all of which count.
 #[derive(Clone, Copy, PartialEq, Eq, Debug)]
 pub struct Record {
     pub serial: [u8; 16],
+}
+
+impl Record {
+    // Whether both hold the same serial: every byte counts. The bytes are compared as one number, in
+    // one step: an array's own equality is a call for each record wherever a program compares other bytes too.
+    fn is_same(self, other: Record) -> bool
+        ensures same { result ≡ same_bytes self.serial other.serial }
+    {
+        u128::from_le_bytes(self.serial) == u128::from_le_bytes(other.serial)
+    }
 }
 
 // Whether a byte may stand in a serial.
@@ -40,7 +50,10 @@ impl Enrolled<'_> {
     pub fn key_of(&self, sought: &Record) -> Option<u32>
         ensures key { MatchOption result (key_in (serials self.now.records.now) sought.now.serial ≡ length self.now.records.now) (IsKey (serials self.now.records.now) sought.now.serial) }
     {
-        let key = self.records.iter().position(|record| record == sought)?;
+        let key = self
+            .records
+            .iter()
+            .position(|record| record.is_same(*sought))?;
         Some(key as u32)
     }
 }
