@@ -79,6 +79,11 @@ PutWhen may was bytes after (Ok done) = may × (after ≡ was ++ bytes) × (leng
 PutWhen may was bytes after (Err (Room needed)) = ⊥
 PutWhen may was bytes after (Err (Form place)) = (place ≡ 96) × (may → 96 < length was + length bytes)
 
+-- what putting into a draft that is lent comes to: that draft, or the refusal
+abbrev pub drafted : ArrayVec ℕ → Result (Unit {0}) LineFault → Result (ArrayVec ℕ) LineFault
+drafted line (Ok done) = Ok line
+drafted line (Err f) = Err f
+
 -- the text of what is said, or it cannot be said in one line
 abbrev pub PutSaid : Said → Result (ArrayVec ℕ) LineFault → Type 0
 PutSaid s (Ok line) = Sayable s × (line.items ≡ text s)

@@ -1,5 +1,5 @@
 // What a line says.
-ghost use Rattle.std.specs.Prelude.{IsSomeAnd, MatchOption, ◌≡◌, ◌+◌, ◌≤◌, ◌++◌, map, length, option_to_list};
+ghost use Rattle.std.specs.Prelude.{IsSomeAnd, MatchOption, ◌≡◌, ◌<◌, [], ◌++◌, map, length};
 ghost use Rattle.logline.specs.Forms.{names, required};
 ghost use Rattle.logline.specs.Events as Content;
 ghost use Rattle.logline.specs.Events.{Filled, said, saying, left_out};
@@ -74,9 +74,10 @@ impl<'a> Event<'a> {
         }
     }
 
-    // What its fields after the first hold.
-    pub(crate) fn values(&self) -> ArrayVec<Value<'a>, MOST>
-        ensures held { map value_content result.items ≡ (said self.now).contents }
+    // Lists what its fields after the first hold. The list is lent, so that it is not moved.
+    pub(crate) fn list_values(&self, values: &mut ArrayVec<Value<'a>, MOST>)
+        requires empty { values.old.items ≡ [] }
+        ensures held { map value_content values.new.items ≡ (said self.now).contents }
     {
         match *self {
             Event::Open {
@@ -84,40 +85,45 @@ impl<'a> Event<'a> {
                 window,
                 fine,
                 seed,
-            } => listed(
-                &[
-                    Value::Letter(kind),
-                    Value::Number(window),
-                    Value::Number(fine),
-                    Value::Number(seed),
-                ],
-                None,
-            ),
-            Event::Enrol { cab } => listed(&[Value::Serial(cab)], None),
-            Event::Play { cab, t } => listed(&[Value::Serial(cab), Value::Number(t)], None),
-            Event::Ask { cab, t, span } => listed(&[Value::Serial(cab), Value::Number(t)], span),
-            Event::Range { from, to, t, span } => listed(
-                &[Value::Number(from), Value::Number(to), Value::Number(t)],
-                span,
-            ),
+            } => {
+                values.push(Value::Letter(kind));
+                values.push(Value::Number(window));
+                values.push(Value::Number(fine));
+                values.push(Value::Number(seed));
+            }
+            Event::Enrol { cab } => values.push(Value::Serial(cab)),
+            Event::Play { cab, t } => {
+                values.push(Value::Serial(cab));
+                values.push(Value::Number(t));
+            }
+            Event::Ask { cab, t, span } => {
+                values.push(Value::Serial(cab));
+                values.push(Value::Number(t));
+                list_last(values, span);
+            }
+            Event::Range { from, to, t, span } => {
+                values.push(Value::Number(from));
+                values.push(Value::Number(to));
+                values.push(Value::Number(t));
+                list_last(values, span);
+            }
             Event::List { least, t, span } => {
-                listed(&[Value::Number(least), Value::Number(t)], span)
+                values.push(Value::Number(least));
+                values.push(Value::Number(t));
+                list_last(values, span);
             }
         }
     }
 }
 
-// The values of the fields that have to be there, and that of a last one, unless it is left out.
-fn listed<'a>(required: &[Value<'a>], last: Option<u32>) -> ArrayVec<Value<'a>, MOST>
-    requires { length required.now + length (option_to_list last) ≤ 4 }
-    ensures held { map value_content result.items ≡ map value_content required.now ++ left_out last }
+// Lists the value of a last field, unless it is left out.
+fn list_last(values: &mut ArrayVec<Value, MOST>, last: Option<u32>)
+    requires room { length values.old.items < 4 }
+    ensures held { map value_content values.new.items ≡ map value_content values.old.items ++ left_out last }
 {
-    let mut values = ArrayVec::new();
-    values.try_extend_from_slice(required).unwrap();
     if let Some(number) = last {
         values.push(Value::Number(number));
     }
-    values
 }
 
 // The number in the field at this place, if there is such a field and it holds one.

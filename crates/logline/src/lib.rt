@@ -18,7 +18,7 @@ use events::event_of;
 pub use faults::LineFault;
 pub use fields::{Field, LONGEST, MOST, fields_of};
 pub use forms::{Kind, Name, Shape, UnknownLetter, Word};
-use texts::line_of;
+use texts::{Draft, put_event};
 
 // The event that a line says, or the place where the line departs from every form.
 pub fn read<'a>(line: &'a [u8]) -> Result<Event<'a>, LineFault>
@@ -39,7 +39,8 @@ pub fn write(event: &Event, out: &mut [u8]) -> Result<usize, LineFault>
     if out.len() < LONGEST {
         return Err(LineFault::Room { needed: LONGEST });
     }
-    let line = line_of(event)?;
+    let mut line = Draft::new();
+    put_event(&mut line, event)?;
     out[..line.len()].copy_from_slice(&line);
     Ok(line.len())
 }

@@ -1,7 +1,7 @@
 // The text of an event, put into bytes.
-ghost use Rattle.std.specs.Prelude.{◌∷◌};
+ghost use Rattle.std.specs.Prelude.{◌≡◌, [], ◌∷◌};
 ghost use Rattle.logline.specs.Events.{content_text, Sound, field_text, said};
-ghost use Rattle.logline.specs.Steps.{value_content, PutWhen, PutSaid};
+ghost use Rattle.logline.specs.Steps.{value_content, PutWhen, drafted, PutSaid};
 
 use crate::events::{Event, Value};
 use crate::faults::LineFault;
@@ -11,7 +11,7 @@ use arrayvec::ArrayVec;
 use itoa::Buffer;
 
 // A line that is being written. What finds no room there makes the line too long.
-type Draft = ArrayVec<u8, LONGEST>;
+pub(crate) type Draft = ArrayVec<u8, LONGEST>;
 
 // Puts bytes behind those that are there.
 fn put(line: &mut Draft, bytes: &[u8]) -> Result<(), LineFault>
@@ -46,16 +46,17 @@ fn put_field(line: &mut Draft, name: Name, value: Value) -> Result<(), LineFault
     put_value(line, value)
 }
 
-// The whole line of an event.
-pub(crate) fn line_of(event: &Event) -> Result<Draft, LineFault>
-    ensures put { PutSaid (said event.now) result }
+// Puts the whole line of an event into an empty draft.
+pub(crate) fn put_event(line: &mut Draft, event: &Event) -> Result<(), LineFault>
+    requires empty { line.old.items ≡ [] }
+    ensures put { PutSaid (said event.now) (drafted line.new result) }
 {
     let word = event.word();
-    let values = event.values();
-    let mut line = ArrayVec::new();
-    put(&mut line, word.head())?;
+    let mut values = ArrayVec::new();
+    event.list_values(&mut values);
+    put(line, word.head())?;
     for (name, value) in word.names().iter().zip(values.as_slice()) {
-        put_field(&mut line, *name, *value)?;
+        put_field(line, *name, *value)?;
     }
-    Ok(line)
+    Ok(())
 }

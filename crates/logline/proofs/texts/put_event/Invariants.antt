@@ -1,7 +1,7 @@
 use Rattle.std.proofs.Common.{length}
 use Rattle.logline.specs.Events.{said}
 use Rattle.logline.proofs.Putting.{Fronts}
-use Rattle.logline.proofs.texts.line_of.Given as goal
+use Rattle.logline.proofs.texts.put_event.Given as goal
 
 -- what is put so far is the front of the line
 abbrev pub invariant-loop-name : goal.invariant-loop-name
