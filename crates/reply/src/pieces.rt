@@ -1,5 +1,5 @@
 // The pieces that a reply is made of, put into bytes one after another.
-ghost use Rattle.std.specs.Prelude.{◌≡◌, ◌+◌, ◌^◌, ◌<◌, ◌≤◌, map, length};
+ghost use Rattle.std.specs.Prelude.{◌≡◌, ◌+◌, ◌^◌, ◌<◌, ◌≤◌, map, length, decimal};
 ghost use Rattle.reply.specs.Pieces.{piece_text};
 ghost use Rattle.reply.specs.Steps.{piece_of, piece_room, line_room, Unfilled, Writes, WritesLine};
 
@@ -63,6 +63,21 @@ impl<'a> Pen<'a> {
         self.at = end;
     }
 
+    // Puts a number. One digit wants no buffer, and small numbers are what replies tell most. Never
+    // inlined: a line whose pieces are known where it is put is small without it, and is inlined there.
+    #[inline(never)]
+    fn put_number(&mut self, number: u64)
+        requires fits { self.old.at + 20 < 2 ^ 64 }
+        ensures put { Writes self.old (decimal number) self.new }
+        ensures within { self.new.at ≤ self.old.at + 20 }
+    {
+        if number < 10 {
+            self.put(&[b'0' + number as u8]);
+        } else {
+            self.put(Buffer::new().format(number).as_bytes());
+        }
+    }
+
     // Puts a piece.
     fn put_piece(&mut self, piece: Piece)
         requires fits { self.old.at + piece_room (piece_of piece) < 2 ^ 64 }
@@ -71,7 +86,7 @@ impl<'a> Pen<'a> {
     {
         match piece {
             Piece::Bytes(bytes) => self.put(bytes),
-            Piece::Number(number) => self.put(Buffer::new().format(number).as_bytes()),
+            Piece::Number(number) => self.put_number(number),
         }
     }
 
