@@ -2,8 +2,9 @@
 #![tactic(auto)]
 
 ghost use Rattle.std.specs.Prelude.{◌≡◌, ◌%◌, ◌<◌, true, is_ok, nat_le};
+ghost use Rattle.window.specs.Meaning.{Fresh};
 ghost use Rattle.window.specs.Faults.{Took, most_taken};
-ghost use Rattle.ring.specs.Kept.{kept, live_kept, with_newest, ring_model};
+ghost use Rattle.ring.specs.Kept.{empty_ring, kept, live_kept, with_newest, ring_model};
 ghost use Rattle.ring.specs.Standing.{ring_keeps};
 
 use window::admission::{in_turn, permit};
@@ -75,7 +76,10 @@ impl Counter for Ring {
 
     ghost keeps = { ring_keeps };
 
-    fn make(window: u32, fineness: u8) -> Ring {
+    fn make(window: u32, fineness: u8) -> Ring
+        ensures fresh { Fresh ring_model window fineness result }
+        ensures made { result ≡ empty_ring window fineness }
+    {
         Ring {
             window: window_from(window),
             fineness: fineness_from(fineness),

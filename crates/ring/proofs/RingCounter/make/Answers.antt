@@ -2,5 +2,5 @@ use Rattle.std.proofs.Common.{rules}
 use Rattle.ring.specs.Standing.{fresh}
 use Rattle.ring.proofs.RingCounter.make.Goals as goal
 
-pub returns : goal.returns
-returns c = record { fresh = fresh c.args.window c.args.fineness _ (search rules) }
+pub returns-clause-fresh : goal.returns-clause-fresh
+returns-clause-fresh c = fresh c.args.window c.args.fineness _ (search rules)
