@@ -13,7 +13,7 @@ use Rattle.histogram.specs.Histograms.{in_use, Trimmed}
 use Rattle.histogram.specs.Cuts.{falls, falling_cons}
 
 -- a dead one at the end is not kept
-kept_shorter : (p : ℕ → Bool) (xs : List ℕ) (n : ℕ) → n < length xs → p (get_or xs n 0) ≡ false → filter p (take (n + 1) xs) ≡ filter p (take n xs)
+pub kept_shorter : (p : ℕ → Bool) (xs : List ℕ) (n : ℕ) → n < length xs → p (get_or xs n 0) ≡ false → filter p (take (n + 1) xs) ≡ filter p (take n xs)
 kept_shorter p xs n inside e = filter_more p xs n 0 inside ∙ ap (λ z. filter p (take n xs) ++ z) (cond-false (p (get_or xs n 0)) _ _ e) ∙ append-nil _
 
 -- the live buckets of one size are those of the live stamps
