@@ -1,5 +1,5 @@
 // The text of an event, put into bytes.
-ghost use Rattle.std.specs.Prelude.{◌≡◌, [], ◌∷◌};
+ghost use Rattle.std.specs.Prelude.{◌≡◌, [], ◌∷◌, decimal};
 ghost use Rattle.logline.specs.Events.{content_text, Sound, field_text, said};
 ghost use Rattle.logline.specs.Steps.{value_content, PutWhen, drafted, PutSaid};
 
@@ -21,12 +21,22 @@ fn put(line: &mut Draft, bytes: &[u8]) -> Result<(), LineFault>
         .map_err(|_| LineFault::Form { place: LONGEST })
 }
 
+// Puts a number. One digit wants no buffer.
+fn put_number(line: &mut Draft, number: u32) -> Result<(), LineFault>
+    ensures put { PutWhen (Unit {0}) line.old.items (decimal number) line.new.items result }
+{
+    if number < 10 {
+        return put(line, &[b'0' + number as u8]);
+    }
+    put(line, Buffer::new().format(number).as_bytes())
+}
+
 // Puts what a field holds.
 fn put_value(line: &mut Draft, value: Value) -> Result<(), LineFault>
     ensures put { PutWhen (Sound (value_content value.entry)) line.old.items (content_text (value_content value.entry)) line.new.items result }
 {
     match value {
-        Value::Number(number) => put(line, Buffer::new().format(number).as_bytes()),
+        Value::Number(number) => put_number(line, number),
         Value::Serial(serial) => {
             if serial.contains(&b' ') {
                 return Err(LineFault::Form { place: LONGEST });
